@@ -1,0 +1,5 @@
+pub mod Ending
+pub mod Image
+pub mod Limits
+pub mod Names
+pub mod Outside

@@ -1,0 +1,33 @@
+-- An assembly as heaps and tables, or its first broken part: exactly one of the two (ECMA-335 II.22 to II.25).
+use Rattle.std.specs.Prelude.{ℕ, ◌+◌, List, take, Result, Ok}
+use Rattle.byte_view.specs.Reading.{Broken, ◌>>=◌}
+use Rattle.byte_view.specs.Headers.{headers}
+use Rattle.byte_view.specs.Streams.{streams, heap_of}
+use Rattle.byte_view.specs.Layout.{layout}
+use Rattle.byte_view.specs.Metadata.{Metadata, tables_in}
+use Rattle.byte_view.specs.Cells.{check_cells}
+
+-- the metadata that lies at a place, in a file that is cut behind it
+unfoldable pub metadata_in : List ℕ → ℕ → Result Metadata Broken
+metadata_in image at = do
+  streams ← streams image at
+  let stream : List ℕ = take streams.0.end image
+  layout ← layout stream streams.0.start
+  let m : Metadata = record {
+    strings = heap_of image streams.1.strings;
+    user_strings = heap_of image streams.1.user_strings;
+    guids = heap_of image streams.1.guids;
+    blobs = heap_of image streams.1.blobs;
+    tables = tables_in stream layout;
+  }
+  _ ← check_cells layout m
+  Ok m
+
+-- the metadata of a file, in a range of it
+abbrev pub metadata : List ℕ → ℕ → ℕ → Result Metadata Broken
+metadata bytes at size = metadata_in (take (at + size) bytes) at
+
+unfoldable pub assembly : List ℕ → Result Metadata Broken
+assembly bytes = do
+  headers ← headers bytes
+  metadata bytes headers.meta_at headers.meta_size

@@ -1,0 +1,11 @@
+pub mod Numbers
+pub mod Reading
+pub mod Parts
+pub mod Headers
+pub mod Heaps
+pub mod Streams
+pub mod Columns
+pub mod Layout
+pub mod Metadata
+pub mod Cells
+pub mod Assembly

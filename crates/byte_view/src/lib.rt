@@ -1,0 +1,6 @@
+//! Numbers in bytes, and in `specs/` the formats that are read from bytes.
+#![tactic(auto)]
+
+mod numbers;
+
+pub use numbers::{compressed, le16, le32, le64};
