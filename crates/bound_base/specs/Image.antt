@@ -1,5 +1,5 @@
 -- The parts of an image by their places in the reading order, their names, and what a reader answers.
-use Rattle.std.specs.Prelude.{◌≡◌, ℕ, List, codes, Result, Ok, Err, ⊤}
+use Rattle.std.specs.Prelude.{◌≡◌, ℕ, List, [], ◌∷◌, slice_index_or, codes, Result, Ok, Err, ⊤}
 use Rattle.bound_base.specs.declared.image.Part.{Part}
 use Rattle.bound_base.specs.declared.image.Part.TheVariants.{Mz, PeOffset, PeSignature, CoffHeader, OptionalHeader, Directories, Sections, CliHeader, CliFlags, MetadataRoot, Streams, Tables, Cell, Types, EntryPoint}
 use Rattle.bound_base.specs.declared.image.BadImage.{BadImage}
@@ -23,23 +23,28 @@ part_place Cell = 12
 part_place Types = 13
 part_place EntryPoint = 14
 
--- a part as it is printed
+-- the parts as they are printed, in reading order
+abbrev pub part_names : List (List ℕ)
+part_names =
+    codes "mz"
+    ∷ codes "pe offset"
+    ∷ codes "pe signature"
+    ∷ codes "coff header"
+    ∷ codes "optional header"
+    ∷ codes "directories"
+    ∷ codes "sections"
+    ∷ codes "cli header"
+    ∷ codes "cli flags"
+    ∷ codes "metadata root"
+    ∷ codes "streams"
+    ∷ codes "tables"
+    ∷ codes "cell"
+    ∷ codes "types"
+    ∷ codes "entry point"
+    ∷ []
+
 abbrev pub part_name : Part → List ℕ
-part_name Mz = codes "mz"
-part_name PeOffset = codes "pe offset"
-part_name PeSignature = codes "pe signature"
-part_name CoffHeader = codes "coff header"
-part_name OptionalHeader = codes "optional header"
-part_name Directories = codes "directories"
-part_name Sections = codes "sections"
-part_name CliHeader = codes "cli header"
-part_name CliFlags = codes "cli flags"
-part_name MetadataRoot = codes "metadata root"
-part_name Streams = codes "streams"
-part_name Tables = codes "tables"
-part_name Cell = codes "cell"
-part_name Types = codes "types"
-part_name EntryPoint = codes "entry point"
+part_name part = slice_index_or part_names (part_place part) []
 
 -- A reader's refusal is the definition's: the place of the part, and the offset. Want of memory is free.
 abbrev pub Refuses : {Y : Type 0} → BadImage → Result Y (ℕ × ℕ) → Type 0

@@ -3,3 +3,4 @@ pub mod Image
 pub mod Limits
 pub mod Names
 pub mod Outside
+pub mod formers

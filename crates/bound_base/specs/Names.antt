@@ -1,5 +1,5 @@
 -- The printed form of a name.
-use Rattle.std.specs.Prelude.{ℕ, ◌+◌, ◌-◌, ◌/◌, ◌%◌, Bool, ◌&&◌, not, ◌==◌, nat_lt, nat_le, List, [], ◌∷◌, if◌then◌else◌}
+use Rattle.std.specs.Prelude.{◌≡◌, ℕ, ◌+◌, ◌-◌, ◌/◌, ◌%◌, ◌<◌, All, Bool, ◌&&◌, not, ◌==◌, nat_lt, nat_le, List, [], ◌∷◌, if◌then◌else◌, ◌≤◌}
 use Rattle.std.specs.List.{flat_map}
 
 -- a printed byte that isn't a space or `\`
@@ -16,3 +16,19 @@ escaped_byte byte = if stands byte then byte ∷ [] else 0x5C ∷ digit (byte / 
 
 abbrev pub escaped : List ℕ → List ℕ
 escaped name = flat_map escaped_byte name
+
+-- each number is a byte
+abbrev pub IsBytes : List ℕ → Type 0
+IsBytes name = All (λ byte. byte < 256) name
+
+-- two names with one printed form are one name
+abbrev pub PrintedNamesDiffer : Type 0
+PrintedNamesDiffer = (a b : List ℕ) → IsBytes a → IsBytes b → escaped a ≡ escaped b → a ≡ b
+
+-- a printed character of ASCII, which no space and no line end is
+abbrev pub IsPrintable : ℕ → Type 0
+IsPrintable byte = (0x21 ≤ byte) × (byte ≤ 0x7E)
+
+-- each byte of a printed name shows
+abbrev pub PrintedNamesShow : Type 0
+PrintedNamesShow = (name : List ℕ) → IsBytes name → All IsPrintable (escaped name)

@@ -30,6 +30,13 @@ IsReadOf (Some (Some contents)) at into (Err Memory) = ⊤
 abbrev pub Rose : ℕ → ℕ → Type 0
 Rose before after = (before < after) ⊎ (after ≡ 2 ^ 64 - 1)
 
+-- a read that doesn't fail leaves the count
+abbrev pub CountsOnlyFailed : Result ℕ StoreFault → ℕ → ℕ → Type 0
+CountsOnlyFailed (Ok n) before after = after ≡ before
+CountsOnlyFailed (Err Absent) before after = after ≡ before
+CountsOnlyFailed (Err Failed) before after = ⊤
+CountsOnlyFailed (Err Memory) before after = after ≡ before
+
 -- what is told of a sink after a piece was appended
 abbrev pub appended : Option (List ℕ) → List ℕ → Option (List ℕ)
 appended None piece = None

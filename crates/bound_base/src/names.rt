@@ -1,7 +1,7 @@
 //! Names as they are printed.
 
 ghost use Rattle.std.specs.Prelude.{◌≡◌, ◌<◌, ◌++◌, IfOk, OnOk};
-ghost use Rattle.bound_base.specs.Names.{escaped, escaped_byte, stands, digit};
+ghost use Rattle.bound_base.specs.Names.{escaped, escaped_byte, stands, digit, PrintedNamesDiffer, PrintedNamesShow};
 
 use crate::items::Bytes;
 use crate::memory::NoMemory;
@@ -12,12 +12,23 @@ use std::alloc::Global;
 pub fn escape(alloc: Global, name: &[u8]) -> Result<Bytes, NoMemory>
     ensures { IfOk result (λ text. text ≡ escaped name.now) }
 {
-    let mut text = Bytes::with_capacity(alloc, escaped_len(name))?;
+    // with room for a line end, which most callers add
+    let mut text = Bytes::with_capacity(alloc, escaped_len(name).saturating_add(1))?;
     for byte in name {
         push_escaped(&mut text, *byte)?;
     }
     Ok(text)
 }
+
+/// Names that differ differ in print. The contract is the law; the call does nothing.
+pub fn printed_names_differ()
+    ensures { PrintedNamesDiffer }
+{}
+
+/// A printed name has no space and no line end. The contract is the law; the call does nothing.
+pub fn printed_names_show()
+    ensures { PrintedNamesShow }
+{}
 
 /// How much room the printed form takes.
 fn escaped_len(name: &[u8]) -> usize {

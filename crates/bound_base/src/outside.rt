@@ -1,7 +1,7 @@
 //! Files to read and streams to write, as traits: what they hold is ghost, and told or not told.
 
 ghost use Rattle.std.specs.Prelude.{◌≡◌, ◌≤◌, ℕ, List, length, Option, IfOk, OnOk, OnErr, IsErrOf};
-ghost use Rattle.bound_base.specs.Outside.{Files, contents_under, IsReadOf, Rose, appended, AppendsFront};
+ghost use Rattle.bound_base.specs.Outside.{Files, contents_under, IsReadOf, Rose, CountsOnlyFailed, appended, AppendsFront};
 
 use thiserror::Error;
 
@@ -29,7 +29,7 @@ pub trait Store {
     /// What is held under each name, where that is told.
     ghost held: { Self → Option Files };
 
-    /// How many reads have failed, up to 2^64 - 1.
+    /// A count of failed reads that never falls, and stays at 2^64 - 1 once there.
     ghost faults: { Self → ℕ };
 
     /// Reads bytes of `name` from the offset `at` on into the front of `into`, and answers how many.
@@ -38,6 +38,7 @@ pub trait Store {
         ensures within { IfOk result (λ n. n ≤ length into.old) }
         ensures answer { IsReadOf (contents_under (held self.old) name.now) at into.new result }
         ensures failed { IsErrOf result StoreFault.Failed → Rose (faults self.old) (faults self.new) }
+        ensures uncounted { CountsOnlyFailed result (faults self.old) (faults self.new) }
         ensures count { faults self.old ≤ faults self.new }
         ensures kept { held self.new ≡ held self.old };
 }
@@ -47,7 +48,7 @@ pub trait Sink {
     /// The bytes written so far, where that is told.
     ghost contents: { Self → Option (List ℕ) };
 
-    /// How many writes have failed, up to 2^64 - 1.
+    /// A count of failed writes that never falls, and stays at 2^64 - 1 once there.
     ghost faults: { Self → ℕ };
 
     /// Appends the piece. After a failure some front of it was appended.
@@ -55,5 +56,6 @@ pub trait Sink {
         ensures ok { OnOk result (contents self.new ≡ appended (contents self.old) piece.now) }
         ensures err { OnErr result (AppendsFront (contents self.old) (contents self.new) piece.now) }
         ensures failed { OnErr result (Rose (faults self.old) (faults self.new)) }
+        ensures uncounted { OnOk result (faults self.new ≡ faults self.old) }
         ensures count { faults self.old ≤ faults self.new };
 }

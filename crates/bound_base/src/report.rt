@@ -42,6 +42,6 @@ pub enum LogEntry {
     Release(u64),
     Callback(u32),
     Answer(u32),
-    /// The place of the reason in the order of refusals, from 0.
+    /// The place of the reason, from 0: library, symbol, type, null, closed, depth, stack, blocks, bytes, thunks.
     Refuse(u8),
 }

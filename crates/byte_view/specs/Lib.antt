@@ -9,3 +9,5 @@ pub mod Layout
 pub mod Metadata
 pub mod Cells
 pub mod Assembly
+pub mod Examples
+pub mod Laws

@@ -1,6 +1,11 @@
 //! Numbers in bytes, and in `specs/` the formats that are read from bytes.
 #![tactic(auto)]
 
+pub mod examples;
+pub mod laws;
 mod numbers;
 
 pub use numbers::{compressed, le16, le32, le64};
+
+#[cfg(test)]
+mod tests;

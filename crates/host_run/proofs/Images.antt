@@ -1,0 +1,50 @@
+-- A refused image is refused by the answer.
+use Rattle.std.proofs.Common.{◌≡◌, refl, sym, ap, ◌∙◌, ℕ, List, Option, Result, Ok, Err, subst}
+use Rattle.std.specs.Prelude.{⊤}
+use Rattle.bound_base.specs.Outside.{appended, AppendsFront}
+use Rattle.bound_base.specs.declared.image.BadImage.{BadImage}
+use Rattle.bound_base.specs.declared.image.BadImage.TheVariants.{Bad, Memory}
+use Rattle.bound_base.specs.Image.{Refuses}
+use Rattle.byte_view.specs.Reading.{Broken, ◌>>=◌}
+use Rattle.byte_view.specs.Headers.{Headers, headers}
+use Rattle.byte_view.specs.Metadata.{Metadata}
+use Rattle.byte_view.specs.Assembly.{assembly, metadata}
+use Rattle.host_run.specs.Answer.{imports_of}
+use Rattle.host_run.specs.Outcome.{Meets}
+use Rattle.host_run.specs.Refusals.{image_refusal, put_refusal}
+use Rattle.host_run.specs.Imports.{imports_text}
+use Rattle.host_run.specs.declared.refusal.PutError.{PutError}
+use Rattle.host_run.specs.declared.refusal.PutError.TheVariants as put
+use Rattle.host_run.proofs.Puts.{front-none}
+
+-- a part that is broken in the first step is broken in the whole
+refuses-bind : {A B : Type 0} (e : BadImage) (r : Result A Broken) (f : A → Result B Broken) → Refuses e r → Refuses e (r >>= f)
+refuses-bind (Bad part at) r f h = ap (λ x. x >>= f) h
+refuses-bind Memory r f h = tt
+
+pub refuses-headers : (e : BadImage) (bytes : List ℕ) → Refuses e (headers bytes) → Refuses e (assembly bytes)
+unfolding assembly
+refuses-headers e bytes h = refuses-bind e (headers bytes) (λ x. metadata bytes x.meta_at x.meta_size) h
+
+pub refuses-metadata : (e : BadImage) (bytes : List ℕ) (h : Headers) → headers bytes ≡ Ok h → Refuses e (metadata bytes h.meta_at h.meta_size) → Refuses e (assembly bytes)
+unfolding assembly
+refuses-metadata (Bad part at) bytes h read refused = ap (λ x. x >>= (λ y. metadata bytes y.meta_at y.meta_size)) read ∙ refused
+refuses-metadata Memory bytes h read refused = tt
+
+pub meets-refused : (e : BadImage) (a : Result Metadata Broken) (t : Option (List ℕ)) → Refuses e a → Meets (imports_of a) (Err (image_refusal e)) t t
+meets-refused (Bad part at) a t h = (ap imports_of h, refl)
+meets-refused Memory a t h = front-none t t (imports_of a).out refl
+
+-- the headers and the metadata that are read make the assembly
+pub assembly-read : (bytes : List ℕ) (h : Headers) (m : Metadata) → headers bytes ≡ Ok h → metadata bytes h.meta_at h.meta_size ≡ Ok m → assembly bytes ≡ Ok m
+unfolding assembly
+assembly-read bytes h m read found = ap (λ r. r >>= (λ y. metadata bytes y.meta_at y.meta_size)) read ∙ found
+
+pub meets-imports : (a : Result Metadata Broken) (m : Metadata) (x : ⊤) (old new : Option (List ℕ)) → a ≡ Ok m → new ≡ appended old (imports_text m)
+    → Meets (imports_of a) (Ok x) old new
+meets-imports a m x old new e put = let P : Result Metadata Broken → Type 0 = λ r. Meets (imports_of r) (Ok x) old new in subst P (sym e) (refl, refl, put)
+
+pub meets-stopped : (e : PutError) (a : Result Metadata Broken) (m : Metadata) (old new : Option (List ℕ)) → a ≡ Ok m → AppendsFront old new (imports_text m)
+    → Meets (imports_of a) (Err (put_refusal e)) old new
+meets-stopped put.Memory a m old new e front = let P : Result Metadata Broken → Type 0 = λ r. AppendsFront old new (imports_of r).out in subst P (sym e) front
+meets-stopped put.SinkFailed a m old new e front = let P : Result Metadata Broken → Type 0 = λ r. AppendsFront old new (imports_of r).out in subst P (sym e) front

@@ -1,0 +1,9 @@
+pub mod Numerals
+pub mod Lines
+pub mod Bounds
+pub mod Program
+pub mod Puts
+pub mod Fronts
+pub mod Images
+pub mod Outcomes
+pub mod Contents

@@ -1,0 +1,8 @@
+pub mod Answer
+pub mod Files
+pub mod Grammar
+pub mod GrammarLaws
+pub mod Imports
+pub mod Outcome
+pub mod Refusals
+pub mod Texts

@@ -1,0 +1,17 @@
+//! The top call of plhost: words, files and streams in, output and a status out.
+#![tactic(auto)]
+
+mod command;
+mod files;
+mod imports;
+mod laws;
+mod numbers;
+mod options;
+mod refusal;
+mod top_call;
+mod words;
+
+pub use command::{Command, RunWords, Word, WordList, Words8};
+pub use laws::{commands_keep_bounds, program_words_are_free};
+pub use top_call::host;
+pub use words::read_words;

@@ -1,0 +1,11 @@
+pub mod Refusals
+pub mod Numbers
+pub mod Steps
+pub mod Headers
+pub mod Valid
+pub mod Tables
+pub mod Starts
+pub mod RowCells
+pub mod Checks
+pub mod Checked
+pub mod Whole

@@ -1,0 +1,2 @@
+pub mod FirstSection
+pub mod Listed
