@@ -1,4 +1,5 @@
--- An assembly as heaps and tables, or its first broken part: exactly one of the two (ECMA-335 II.22 to II.25).
+-- An assembly as heaps and tables, or its first broken part up to its cells: exactly one of the two (ECMA-335 II.22 to
+-- II.25).
 use Rattle.std.specs.Prelude.{ℕ, ◌+◌, List, take, Result, Ok}
 use Rattle.byte_view.specs.Reading.{Broken, ◌>>=◌}
 use Rattle.byte_view.specs.Headers.{headers}

@@ -24,7 +24,8 @@ pub fn checked_cells_name_what_is_there()
     ensures { CheckedCellsNameWhatIsThere }
 {}
 
-/// Each import of an accepted file has a module, a name and a member that are there.
+/// Each import of an accepted file has a scope that is 0 or a row of ModuleRef, a name that is 0 or an offset in
+/// `#Strings`, and a member that is 0 or a row of Field or MethodDef.
 pub fn imports_are_sound()
     ensures { ImportsAreSound }
 {}

@@ -1,4 +1,4 @@
--- The lines that plhost prints beside a program's output.
+-- The lines that plhost prints beside a program's output. A line ends with 10.
 use Rattle.std.specs.Prelude.{ℕ, List, [], ◌∷◌, ◌++◌, slice_index_or, codes}
 use Rattle.std.specs.Fmt.{decimal}
 use Rattle.bound_base.specs.Names.{escaped}
