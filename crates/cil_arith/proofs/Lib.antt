@@ -1,0 +1,10 @@
+pub mod Answered
+pub mod Bits
+pub mod Compared
+pub mod Complements
+pub mod Cutting
+pub mod Divided
+pub mod Inverted
+pub mod Kept
+pub mod Plain
+pub mod Worked
