@@ -1,13 +1,13 @@
 -- Which whole numbers fit a width, and what is left of one in the bits of a width.
-use Rattle.std.proofs.Common.{◌≡◌, ℕ, ◌/◌, ◌%◌, ◌^◌, ◌<◌, true, ℤ, pos, negsuc, ◌*ℤ◌, ◌≤ℤ◌, FitsSigned, int_le, unsigned_abs, Decides, refl, sym, ap, ◌∙◌, arith, to_z-of_z}
-use Rattle.std.proofs.Math.Nat.{mod-eq_of_lt, div-le_self}
+use Rattle.std.proofs.Common.{◌≡◌, ℕ, ◌%◌, ◌^◌, ◌<◌, true, ℤ, pos, negsuc, ◌*ℤ◌, ◌≤ℤ◌, FitsSigned, bit_and, bit_or, bit_xor, int_le, unsigned_abs, Decides, refl, sym, ap, ◌∙◌, arith, to_z-of_z}
+use Rattle.std.proofs.Math.Nat.{mod-eq_of_lt}
 use Rattle.std.proofs.lemmas.Int.{ints, int_wrap_fits, of_z-to_z, wrapping_mul-bits, int_wrap-mul_right}
-use Rattle.std.proofs.lemmas.Nat.{pow_pos, pow_below}
+use Rattle.std.proofs.lemmas.Nat.{pow_pos, pow_below, and_le_l, or_lt, xor_lt}
 use Rattle.std.proofs.lemmas.Bool.{and_parts, and_from, false≢true}
-use Rattle.std.specs.Int.{Width, w8, w16, w32, w64, w128, cast_unsigned, cast_signed, int_wrap, int_shl, int_shr}
+use Rattle.std.specs.Int.{Width, w8, w16, w32, w64, w128, cast_unsigned, cast_signed, int_wrap, int_shl}
 use mir.Val.{bits}
 use Rattle.cil_arith.specs.Kinds.{Reading, Signed, Unsigned, read, least, greatest, holds}
-use Rattle.cil_arith.specs.Arithmetic.{shifted_left, amount_of}
+use Rattle.cil_arith.specs.Arithmetic.{shifted_left}
 
 -- ---- which numbers fit
 
@@ -62,15 +62,6 @@ shl_is w a k f h =
     ∙ ap (λ y. int_wrap w (a *ℤ y)) (sym (int_wrap_bits w (2 ^ k) small))
     ∙ int_wrap-mul_right w a (pos (2 ^ k))
 
--- the same of a shift's result, by a number that is its amount
-pub left_shift : (w : Width) (r a b : ℤ) (k : ℕ) → FitsSigned w r → FitsSigned w a → k < bits w → k ≡ amount_of w b → r ≡ int_shl w a k → cast_signed w (cast_unsigned w r) ≡ int_wrap w (shifted_left a (amount_of w b))
-left_shift w r a b k in_r in_a h e is = to_z-of_z in_r ∙ is ∙ shl_is w a k in_a h ∙ ap (λ n. int_wrap w (shifted_left a n)) e
-
-pub right_shift : (w : Width) (r b : ℤ) (x n k : ℕ) → FitsSigned w r → x < 2 ^ bits w → k ≡ amount_of w b → n ≡ x / 2 ^ k → r ≡ cast_signed w n → cast_signed w (cast_unsigned w r) ≡ int_wrap w (int_shr (pos x) (amount_of w b))
-right_shift w r b x n k in_r small e quotient is =
-    to_z-of_z in_r ∙ is ∙ sym (int_wrap_bits w n (omega (arith, quotient, div-le_self x (2 ^ k))))
-    ∙ ap (λ m. int_wrap w (pos m)) (quotient ∙ ap (λ j. x / 2 ^ j) e)
-
 -- the bits of a number are low bits of it
 pub same_low_bits : (w : Width) (z : ℤ) → FitsSigned w z → int_wrap w (pos (cast_unsigned w z)) ≡ int_wrap w z
 same_low_bits w z f = int_wrap_bits w (cast_unsigned w z) (of_z_below w z f) ∙ to_z-of_z f ∙ sym (int_wrap_fits w z f)
@@ -90,3 +81,17 @@ nonzero w16 (negsuc n) f deny = omega arith
 nonzero w32 (negsuc n) f deny = omega arith
 nonzero w64 (negsuc n) f deny = omega arith
 nonzero w128 (negsuc n) f deny = omega arith
+
+-- ---- bit by bit
+
+pub and_wrapped : (w : Width) (x y : ℤ) → FitsSigned w x → FitsSigned w y → int_wrap w (pos (bit_and (cast_unsigned w x) (cast_unsigned w y))) ≡ cast_signed w (bit_and (cast_unsigned w x) (cast_unsigned w y))
+and_wrapped w x y f g =
+    let m = cast_unsigned w x in
+    let n = cast_unsigned w y in
+    int_wrap_bits w (bit_and m n) (omega (arith, and_le_l m n, of_z_below w x f))
+
+pub or_wrapped : (w : Width) (x y : ℤ) → FitsSigned w x → FitsSigned w y → int_wrap w (pos (bit_or (cast_unsigned w x) (cast_unsigned w y))) ≡ cast_signed w (bit_or (cast_unsigned w x) (cast_unsigned w y))
+or_wrapped w x y f g = int_wrap_bits w (bit_or (cast_unsigned w x) (cast_unsigned w y)) (or_lt (bits w) (cast_unsigned w x) (cast_unsigned w y) (of_z_below w x f) (of_z_below w y g))
+
+pub xor_wrapped : (w : Width) (x y : ℤ) → FitsSigned w x → FitsSigned w y → int_wrap w (pos (bit_xor (cast_unsigned w x) (cast_unsigned w y))) ≡ cast_signed w (bit_xor (cast_unsigned w x) (cast_unsigned w y))
+xor_wrapped w x y f g = int_wrap_bits w (bit_xor (cast_unsigned w x) (cast_unsigned w y)) (xor_lt (bits w) (cast_unsigned w x) (cast_unsigned w y) (of_z_below w x f) (of_z_below w y g))

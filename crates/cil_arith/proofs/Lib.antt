@@ -1,4 +1,3 @@
-pub mod Answered
 pub mod Bits
 pub mod Compared
 pub mod Complements
@@ -7,4 +6,5 @@ pub mod Divided
 pub mod Inverted
 pub mod Kept
 pub mod Plain
+pub mod Shifted
 pub mod Worked

@@ -53,6 +53,7 @@ rule Shl = Shifts Signed shifted_left
 rule Shr = Shifts Signed int_shr
 rule ShrUn = Shifts Unsigned int_shr
 
+-- shifts are the operations whose second operand is an amount
 abbrev pub is_shift : Rule → Bool
 is_shift (Wraps f) = false
 is_shift (Checks reading f) = false

@@ -13,15 +13,19 @@ pub record Comparison : Type 0 where
   pub reading : Reading
   pub relation : ℤ → ℤ → Bool
 
+-- a is b or more
 abbrev pub at_least : ℤ → ℤ → Bool
 at_least a b = int_le b a
 
+-- a is more than b
 abbrev pub above : ℤ → ℤ → Bool
 above a b = int_lt b a
 
+-- a is not b
 abbrev pub unequal : ℤ → ℤ → Bool
 unequal a b = not (int_eq a b)
 
+-- the comparisons
 abbrev pub comparison : CmpOp → Comparison
 comparison Eq = record { reading = Signed; relation = int_eq }
 comparison Ne = record { reading = Signed; relation = unequal }

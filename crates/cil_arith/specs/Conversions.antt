@@ -15,6 +15,7 @@ pub record IntegerType : Type 0 where
   pub reading : Reading
   pub kind : Kind
 
+-- the types of conv.i1 .. conv.u
 abbrev pub int8 : IntegerType
 int8 = record { size = w8; reading = Signed; kind = Int32 }
 
@@ -50,6 +51,7 @@ pub data Conversion : Type 0 where
   Cuts : IntegerType → Conversion
   Keeps : Reading → IntegerType → Conversion
 
+-- the conversions
 abbrev pub conversion : ConvOp → Conversion
 conversion I1 = Cuts int8
 conversion I2 = Cuts int16

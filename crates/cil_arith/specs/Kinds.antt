@@ -12,6 +12,7 @@ pub data Kind : Type 0 where
   Int64 : Kind
   NativeInt : Kind
 
+-- the kind of a number
 abbrev pub kind_of : Num → Kind
 kind_of (I32 z) = Int32
 kind_of (I64 z) = Int64
@@ -49,10 +50,12 @@ abbrev pub read : Reading → Width → ℤ → ℤ
 read Signed w z = z
 read Unsigned w z = pos (cast_unsigned w z)
 
+-- the least number that a width holds in a reading
 abbrev pub least : Reading → Width → ℤ
 least Signed w = neg_ℤ (pos (2 ^ (bits w - 1)))
 least Unsigned w = pos 0
 
+-- the greatest one
 abbrev pub greatest : Reading → Width → ℤ
 greatest Signed w = pos (2 ^ (bits w - 1) - 1)
 greatest Unsigned w = pos (2 ^ bits w - 1)

@@ -42,10 +42,12 @@ pub record AreQuotientAndRemainder (a b q r : ℤ) : Type 0 where
   pub not_negative : pos 0 ≤ℤ a → pos 0 ≤ℤ r
   pub not_positive : a ≤ℤ pos 0 → r ≤ℤ pos 0
 
+-- div and div.un
 abbrev pub quotient_op : Reading → BinOp
 quotient_op Signed = Div
 quotient_op Unsigned = DivUn
 
+-- rem and rem.un
 abbrev pub remainder_op : Reading → BinOp
 remainder_op Signed = Rem
 remainder_op Unsigned = RemUn
@@ -60,10 +62,11 @@ QuotientsAndRemaindersBelongTogether =
     → binary_of (remainder_op reading) a b ≡ Some (Ok r)
     → let value : Num → ℤ = λ n. read reading (width (kind_of q)) (whole n) in AreQuotientAndRemainder (value a) (value b) (value q) (value r)
 
--- a divisor of 0 is the one cause of DivideByZero
+-- div, div.un, rem or rem.un
 abbrev pub IsDivision : BinOp → Type 0
 IsDivision op = (reading : Reading) × ((op ≡ quotient_op reading) ⊎ (op ≡ remainder_op reading))
 
+-- a division of numbers that meet gives DivideByZero where the divisor is 0, and no other case does
 abbrev pub DivisorsOfZeroDivideByZero : Type 0
 DivisorsOfZeroDivideByZero =
     (op : BinOp) (a b : Num) (kind : Kind)
@@ -147,6 +150,7 @@ turned LeUn = GeUn
 turned Lt = Gt
 turned LtUn = GtUn
 
+-- each comparison holds where its opposite does not, and where the turned one holds of the operands in the other order
 abbrev pub ComparisonsHaveOpposites : Type 0
 ComparisonsHaveOpposites =
     (op : CmpOp) (a b : Num)

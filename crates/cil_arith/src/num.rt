@@ -23,7 +23,7 @@ pub enum Arith {
     /// The divisor is 0 (`System.DivideByZeroException`).
     #[error("division by zero")]
     DivideByZero,
-    /// The result isn't one of its kind (`System.OverflowException`; `System.ArithmeticException` of div and rem).
+    /// The result isn't a number of its kind (`System.OverflowException`, an `ArithmeticException`).
     #[error("arithmetic overflow")]
     Overflow,
 }
