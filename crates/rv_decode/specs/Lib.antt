@@ -1,0 +1,5 @@
+pub mod Fields
+pub mod Formats
+pub mod Encoding
+pub mod Decoding
+pub mod Laws
