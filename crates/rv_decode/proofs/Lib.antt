@@ -6,3 +6,4 @@ pub mod ReadBack
 pub mod Decodes
 pub mod Exact
 pub mod Shifts
+pub mod Worked

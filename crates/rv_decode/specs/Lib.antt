@@ -3,3 +3,4 @@ pub mod Formats
 pub mod Encoding
 pub mod Decoding
 pub mod Laws
+pub mod Examples

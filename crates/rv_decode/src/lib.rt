@@ -3,6 +3,7 @@
 
 mod decoding;
 mod encoding;
+pub mod examples;
 mod fields;
 mod formats;
 mod instr;
@@ -12,3 +13,6 @@ mod opcodes;
 pub use decoding::decode;
 pub use encoding::encode;
 pub use instr::Instr;
+
+#[cfg(test)]
+mod tests;
