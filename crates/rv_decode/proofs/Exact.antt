@@ -2,8 +2,8 @@
 use Rattle.std.proofs.Common.{◌≡◌, ◌≢◌, ℕ, Option, Some, None, refl, subst}
 use Rattle.rv_decode.specs.declared.instr.Instr.{Instr}
 use Rattle.rv_decode.specs.Encoding.{encoding}
-use Rattle.rv_decode.specs.Decoding.{decoded}
-use Rattle.rv_decode.specs.Laws.{DecodedIsEncoded, UndecodedIsNoEncoding, EncodedIsReadBack, EncodingsDiffer, EncodingsAreWords}
+use Rattle.rv_decode.specs.Decoding.{misc_mem, decoded}
+use Rattle.rv_decode.specs.Laws.{DecodedIsEncoded, UndecodedIsNoEncoding, EncodedIsReadBack, EncodingsDiffer, EncodingsAreWords, FencesKeepFields}
 use Rattle.rv_decode.proofs.Sound.{Has, decoded_has}
 use Rattle.rv_decode.proofs.Decodes.{is_word_of}
 
@@ -32,3 +32,7 @@ encodings_differ i j word first second =
 
 pub encodings_are_words : EncodingsAreWords
 encodings_are_words i word given = let is = is_word_of i word given in (is.small, is.low)
+
+pub fences_keep_fields : FencesKeepFields
+unfolding misc_mem decoded
+fences_keep_fields word opcode_is funct3_is = rw (opcode_is, funct3_is) refl

@@ -16,10 +16,10 @@ use crate::opcodes::{
     AUIPC, BRANCH, JAL, JALR, LOAD, LUI, MISC_MEM, OP, OP_32, OP_IMM, OP_IMM_32, STORE, SYSTEM,
 };
 
-/// The instruction that has the word; None where no instruction has it.
+/// The instruction that has the word; None where no instruction of RV64I or M has it.
 ///
-/// Each FENCE keeps its fields. FENCE.I, the instructions of the extensions other than M, and compressed ones have none
-/// of these words.
+/// A FENCE keeps its fields, whatever they are. Not read are FENCE.I, the instructions on control and status registers, and
+/// each word of another extension.
 pub fn decode(word: u32) -> Option<Instr>
     ensures value { result ≡ decoded word }
     ensures encoded { (i : Instr) → (result ≡ Some i) ↔ (encoding i ≡ Some word) }
@@ -27,6 +27,7 @@ pub fn decode(word: u32) -> Option<Instr>
     by_opcode(word)
 }
 
+/// The instruction, by the function of its opcode.
 #[tactic(auto, unfolding(crate::specs::Decoding::decoded))]
 fn by_opcode(word: u32) -> Option<Instr>
     ensures { result ≡ decoded word }
@@ -58,7 +59,7 @@ fn by_opcode(word: u32) -> Option<Instr>
     }
 }
 
-/// The third part of the opcode.
+/// The field funct3, which tells the instructions of an opcode apart.
 #[inline]
 fn funct3(word: u32) -> u32
     ensures { result ≡ funct3_of word }

@@ -1,6 +1,6 @@
 //! What holds of every word and every instruction: a proof, in a function that does nothing.
 
-ghost use Rattle.rv_decode.specs.Laws.{DecodedIsEncoded, UndecodedIsNoEncoding, EncodedIsReadBack, EncodingsDiffer, EncodingsAreWords};
+ghost use Rattle.rv_decode.specs.Laws.{DecodedIsEncoded, UndecodedIsNoEncoding, EncodedIsReadBack, EncodingsDiffer, EncodingsAreWords, FencesKeepFields};
 
 /// A word decodes to an instruction exactly where it is the instruction's encoding.
 pub fn decoded_is_encoded()
@@ -25,4 +25,9 @@ pub fn encodings_differ()
 /// An encoding is a word of 32 bits, the lowest two of which are set.
 pub fn encodings_are_words()
     ensures { EncodingsAreWords }
+{}
+
+/// A word of opcode MISC-MEM and funct3 0 is a FENCE, whatever its other fields are, and keeps them.
+pub fn fences_keep_fields()
+    ensures { FencesKeepFields }
 {}
