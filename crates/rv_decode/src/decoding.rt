@@ -16,7 +16,8 @@ use crate::opcodes::{
     AUIPC, BRANCH, JAL, JALR, LOAD, LUI, MISC_MEM, OP, OP_32, OP_IMM, OP_IMM_32, STORE, SYSTEM,
 };
 
-/// The instruction that has the word; None where no instruction of RV64I or M has it.
+/// The instruction that has the word; None where no instruction of RV64I or M has it (RISC-V unprivileged ISA, RV32/64G
+/// Instruction Set Listings).
 ///
 /// A FENCE keeps its fields, whatever they are. Not read are FENCE.I, the instructions on control and status registers, and
 /// each word of another extension.
