@@ -1,0 +1,6 @@
+pub mod Fields
+pub mod Formats
+pub mod Encoding
+pub mod Decoding
+pub mod Laws
+pub mod Examples
