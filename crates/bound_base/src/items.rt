@@ -55,6 +55,13 @@ impl<T> Items<T> {
         Items { items }
     }
 
+    /// The elements, in the memory that they had.
+    pub fn into_vec(self) -> Vec<T>
+        ensures { result.items ≡ self }
+    {
+        self.items
+    }
+
     pub fn as_slice(&self) -> &[T]
         ensures { result.now ≡ self.now }
     {

@@ -1,0 +1,29 @@
+-- Laws of the calling convention.
+use Rattle.std.specs.Prelude.{◌≡◌, ℕ, ◌*◌, ◌%◌, ◌^◌, Bool, true, IsTrue}
+use Rattle.lp64_convention.specs.Places.{word_size, place_of}
+use Rattle.lp64_convention.specs.Widening.{is_integer_size, signed_of, integer_of, widened}
+use Rattle.lp64_convention.specs.declared.places.Slot.TheVariants.{Stack}
+
+-- two words of one place are one word
+abbrev pub WordsHaveOwnPlaces : Type 0
+WordsHaveOwnPlaces = (j k : ℕ) → place_of j ≡ place_of k → j ≡ k
+
+-- a word on the stack stands at a multiple of its size
+abbrev pub StackWordsAreAligned : Type 0
+StackWordsAreAligned = (k at : ℕ) → place_of k ≡ Stack at → at % word_size ≡ 0
+
+-- what is widened is wide
+abbrev pub WidenedOnceIsWide : Type 0
+WidenedOnceIsWide =
+    (bits width : ℕ) (signed : Bool) → IsTrue (is_integer_size width)
+    → widened (widened bits width signed) width signed ≡ widened bits width signed
+
+-- two words with the same low bytes are widened to one
+abbrev pub OnlyLowBytesMatter : Type 0
+OnlyLowBytesMatter =
+    (a b width : ℕ) (signed : Bool) → a % 2 ^ (8 * width) ≡ b % 2 ^ (8 * width) → widened a width signed ≡ widened b width signed
+
+-- a widened signed integer, read as a signed word, is that integer
+abbrev pub SignedIntegersReadBack : Type 0
+SignedIntegersReadBack =
+    (bits width : ℕ) → IsTrue (is_integer_size width) → signed_of 64 (widened bits width true) ≡ integer_of bits width true

@@ -1,0 +1,28 @@
+//! Laws of the calling convention: each function's contract is one.
+
+ghost use Rattle.lp64_convention.specs.Laws.{WordsHaveOwnPlaces, StackWordsAreAligned, WidenedOnceIsWide, OnlyLowBytesMatter, SignedIntegersReadBack};
+
+/// No two words of the arguments have one place.
+pub fn words_have_own_places()
+    ensures { WordsHaveOwnPlaces }
+{}
+
+/// Each word on the stack stands at a multiple of 8 bytes.
+pub fn stack_words_are_aligned()
+    ensures { StackWordsAreAligned }
+{}
+
+/// To widen what is widened changes nothing.
+pub fn widened_once_is_wide()
+    ensures { WidenedOnceIsWide }
+{}
+
+/// Whatever stands above an integer's bytes, it is widened to the same register.
+pub fn only_low_bytes_matter()
+    ensures { OnlyLowBytesMatter }
+{}
+
+/// A widened signed integer, read as a signed number of 64 bits, is that integer.
+pub fn signed_integers_read_back()
+    ensures { SignedIntegersReadBack }
+{}

@@ -1,0 +1,12 @@
+//! How integers and addresses are passed to RISC-V code under LP64 (RISC-V ELF psABI, Integer Calling Convention).
+#![tactic(auto)]
+
+pub mod laws;
+mod places;
+mod widening;
+
+pub use places::{Slot, word_place, words_of};
+pub use widening::widen;
+
+#[cfg(test)]
+mod tests;

@@ -1,0 +1,10 @@
+pub mod Bisection
+pub mod Picks
+pub mod RangesFound
+pub mod Addresses
+pub mod Kept
+pub mod Changes
+pub mod Room
+pub mod Reached
+pub mod WrittenBytes
+pub mod Apart

@@ -1,0 +1,46 @@
+-- Laws of native memory.
+use Rattle.std.specs.Prelude.{◌≡◌, ℕ, ◌+◌, ◌-◌, ◌<◌, ◌≤◌, nat_le, nat_lt, ◌&&◌, List, length, slice_get, Option, Some, None, option_and_then, if◌then◌else◌}
+use Rattle.std.specs.List.{find}
+use Rattle.bound_base.specs.declared.limits.Rights.{Rights}
+use Rattle.native_memory.specs.declared.kind.Kind.{Kind}
+use Rattle.native_memory.specs.AddressSpace.{Block, AddressSpace, lowest, live_bytes}
+use Rattle.native_memory.specs.Ranges.{written_at}
+use Rattle.native_memory.specs.Placement.{placed, placed_at, ended, base_of, holds_address}
+use Rattle.native_memory.specs.InPlace.{adopted, taken_back}
+use Rattle.native_memory.specs.Sound.{IsSound}
+
+-- two live blocks share no address, each lies between the lowest address and the next, and the live bytes are within the limit
+pub record LieApart (space : AddressSpace) : Type 0 where
+  pub apart : (i j : ℕ) (a b : Block) → i < j → slice_get space.blocks i ≡ Some a → slice_get space.blocks j ≡ Some b → a.base + a.size ≤ b.base
+  pub low : (i : ℕ) (a : Block) → slice_get space.blocks i ≡ Some a → lowest ≤ a.base
+  pub high : (i : ℕ) (a : Block) → slice_get space.blocks i ≡ Some a → a.base + a.size ≤ space.next
+  pub room : live_bytes space ≤ space.limit
+
+-- the byte at an address of a live block that has its bytes
+abbrev pub byte_at : AddressSpace → ℕ → Option ℕ
+byte_at space addr = option_and_then (λ block. option_and_then (λ bytes. slice_get bytes (addr - block.base)) block.contents) (find (holds_address addr) space.blocks)
+
+-- a write changes the bytes of its range and no others
+abbrev pub WritesChangeTheirRange : Type 0
+WritesChangeTheirRange =
+    (old new : AddressSpace) (addr : ℕ) (from : List ℕ) → IsSound old → written_at old addr from ≡ Some new → (place : ℕ)
+    → byte_at new place ≡ (if nat_le addr place && nat_lt place (addr + length from) then slice_get from (place - addr) else byte_at old place)
+
+-- native memory after one call that changes it
+pub data Follows : AddressSpace → AddressSpace → Type 0 where
+  Places : (old new : AddressSpace) (size : ℕ) (rights : Rights) (kind : Kind) → placed old size rights kind ≡ Some new → Follows old new
+  PlacesAt : (old new : AddressSpace) (base : ℕ) (bytes : List ℕ) (size : ℕ) (rights : Rights) → old.edge ≤ base → length bytes ≤ size → placed_at old base bytes size rights ≡ Some new → Follows old new
+  Writes : (old new : AddressSpace) (addr : ℕ) (from : List ℕ) → written_at old addr from ≡ Some new → Follows old new
+  Ends : (old new : AddressSpace) (base : ℕ) → ended old base ≡ Some new → Follows old new
+  Adopts : (old new : AddressSpace) (base : ℕ) (body : List ℕ) → adopted old base body ≡ Some new → Follows old new
+  TakesBack : (old : AddressSpace) (base : ℕ) → Follows old (taken_back old base)
+
+-- native memory after any number of calls
+pub data Reaches : AddressSpace → AddressSpace → Type 0 where
+  Stays : (space : AddressSpace) → Reaches space space
+  Goes : (old between new : AddressSpace) → Reaches old between → Follows between new → Reaches old new
+
+-- an address below the end of the last block in which no live block lies has none ever after: no address is used twice
+abbrev pub EndedAddressesStayFree : Type 0
+EndedAddressesStayFree =
+    (old new : AddressSpace) (addr : ℕ) → IsSound old → addr < old.edge → base_of old addr ≡ None → Reaches old new → base_of new addr ≡ None

@@ -1,0 +1,7 @@
+pub mod AddressSpace
+pub mod Ranges
+pub mod Placement
+pub mod InPlace
+pub mod Sound
+pub mod Search
+pub mod Laws

@@ -1,0 +1,93 @@
+-- Placing blocks and ending them.
+use Rattle.std.specs.Prelude.{◌≡◌, ℕ, ◌+◌, ◌-◌, ◌*◌, ◌/◌, ◌^◌, max, nat_le, Bool, true, false, ◌&&◌, not, List, [], ◌∷◌, ◌++◌, length, replicate, Option, Some, None, option_map, if◌then◌else◌, ◌==◌}
+use Rattle.std.specs.List.{filter, find}
+use Rattle.bound_base.specs.declared.limits.Rights.{Rights}
+use Rattle.native_memory.specs.declared.kind.Kind.{Kind}
+use Rattle.native_memory.specs.declared.kind.Kind.TheVariants.{Segment, Stack, Errno, Heap, Temp, InPlace}
+use Rattle.native_memory.specs.declared.faults.PlaceBad.{PlaceBad}
+use Rattle.native_memory.specs.declared.faults.PlaceBad.TheVariants.{Room, Memory}
+use Rattle.native_memory.specs.AddressSpace.{Block, AddressSpace, live_bytes}
+
+-- the least multiple of 16 not below
+abbrev pub up_to_16 : ℕ → ℕ
+up_to_16 n = (n + 15) / 16 * 16
+
+-- the end of a block; a block of no bytes ends one past its base, so that no two blocks have one base
+abbrev pub edge_of : Block → ℕ
+edge_of block = block.base + max block.size 1
+
+-- the live bytes stay within the limit, and the next address within 2^46
+abbrev pub has_room : AddressSpace → ℕ → ℕ → Bool
+has_room space size next = nat_le (live_bytes space + size) space.limit && nat_le next (2 ^ 46)
+
+-- with one more block behind the others
+abbrev pub with_behind : AddressSpace → Block → ℕ → AddressSpace
+with_behind space block next = record space { next = next; edge = edge_of block; blocks = space.blocks ++ block ∷ [] }
+
+-- the same where there is room for it
+abbrev pub with_block : AddressSpace → Block → ℕ → Option AddressSpace
+with_block space block next =
+    if has_room space block.size next
+    then Some (with_behind space block next)
+    else None
+
+-- what a new block holds: zeros, and nothing yet in an in-place block
+abbrev pub new_contents : ℕ → Kind → Option (List ℕ)
+new_contents size InPlace = None
+new_contents size Segment = Some (replicate size 0)
+new_contents size Stack = Some (replicate size 0)
+new_contents size Errno = Some (replicate size 0)
+new_contents size Heap = Some (replicate size 0)
+new_contents size Temp = Some (replicate size 0)
+
+-- A block of zeros at the next address. Then that address grows by the size rounded up to 16, and by 16. None where there
+-- is no room.
+unfoldable pub placed : AddressSpace → ℕ → Rights → Kind → Option AddressSpace
+placed space size rights kind =
+    with_block space (record { base = space.next; size = size; rights = rights; kind = kind; contents = new_contents size kind })
+    (space.next + up_to_16 size + 16)
+
+-- A segment at a given address, with bytes at its front and zeros behind them. Then the next address is its end rounded up
+-- to 16, and 16 on. None where there is no room.
+unfoldable pub placed_at : AddressSpace → ℕ → List ℕ → ℕ → Rights → Option AddressSpace
+placed_at space base bytes size rights =
+    with_block space (record { base = base; size = size; rights = rights; kind = Segment; contents = Some (bytes ++ replicate (size - length bytes) 0) })
+    (up_to_16 (base + size) + 16)
+
+-- the block has this base
+abbrev pub stands_at : ℕ → Block → Bool
+stands_at base block = block.base == base
+
+-- the live block with a base
+unfoldable pub block_with : AddressSpace → ℕ → Option Block
+block_with space base = find (stands_at base) space.blocks
+
+-- what is told of a block
+abbrev pub described : Block → (ℕ × Rights × Kind)
+described block = (block.size, block.rights, block.kind)
+
+-- without the block with a base; None where no live block has it
+unfoldable pub ended : AddressSpace → ℕ → Option AddressSpace
+ended space base = option_map (λ _. record space { blocks = filter (λ block. not (stands_at base block)) space.blocks }) (block_with space base)
+
+-- the address lies in the block
+abbrev pub holds_address : ℕ → Block → Bool
+holds_address addr block = nat_le block.base addr && nat_le (addr + 1) (block.base + block.size)
+
+-- the base of the live block in which an address lies
+unfoldable pub base_of : AddressSpace → ℕ → Option ℕ
+base_of space addr = option_map (λ block. block.base) (find (holds_address addr) space.blocks)
+
+-- an address that the next block may have
+abbrev pub within_top : ℕ → Option ℕ
+within_top next = if nat_le next (2 ^ 46) then Some next else None
+
+-- A change that a call is to make: it was made, or there is none to make and nothing changed.
+abbrev pub Does : Bool → Option AddressSpace → AddressSpace → AddressSpace → Type 0
+Does true change old new = change ≡ Some new
+Does false change old new = (change ≡ None) × (new ≡ old)
+
+-- why a block isn't placed: there is no room for it, or no memory, which is free
+abbrev pub Refuses : PlaceBad → Option AddressSpace → Type 0
+Refuses Room change = change ≡ None
+Refuses Memory change = Unit {0}

@@ -1,0 +1,13 @@
+//! Laws of native memory. The contract of each function is the law; the call does nothing.
+
+ghost use Rattle.native_memory.specs.Laws.{WritesChangeTheirRange, EndedAddressesStayFree};
+
+/// A write changes the bytes of its range and no others.
+pub fn writes_change_their_range()
+    ensures { WritesChangeTheirRange }
+{}
+
+/// An address in which a block lay that has ended is in no block ever after.
+pub fn ended_addresses_stay_free()
+    ensures { EndedAddressesStayFree }
+{}

@@ -1,0 +1,21 @@
+//! Native memory: blocks of bytes in one address space, each with its rights.
+#![tactic(auto)]
+
+mod access;
+mod block;
+mod faults;
+mod kind;
+mod laws;
+mod memory;
+mod placement;
+mod search;
+mod steps;
+
+pub use faults::{Fault, PlaceBad};
+pub use kind::Kind;
+pub use laws::{ended_addresses_stay_free, writes_change_their_range};
+pub use memory::Memory;
+pub use steps::Steps;
+
+#[cfg(test)]
+mod tests;

@@ -1,0 +1,428 @@
+//! Native memory: the live blocks of an address space, in order of their bases.
+
+ghost use Rattle.std.specs.Prelude.{◌≡◌, ◌+◌, ◌-◌, ◌*◌, ◌^◌, ◌<◌, ◌≤◌, max, length, Some, None, IfOk, IfErr, OnOk, OnErr, OnSome, IfNone, IfSome, MatchOption, is_some, option_map, if◌then◌else◌, true, false};
+ghost use Rattle.std.specs.Option.{option_copied};
+ghost use Rattle.bound_base.specs.declared.limits.Rights.{Rights};
+ghost use Rattle.native_memory.specs.AddressSpace.{empty, live_bytes, heap_blocks, listed};
+ghost use Rattle.native_memory.specs.Ranges.{covers, may_read, right_of, right_to, bytes_at, word_at, written_at};
+ghost use Rattle.native_memory.specs.Placement.{placed, placed_at, ended, base_of, block_with, described, stands_at, has_room, with_behind, Does, Refuses};
+ghost use Rattle.native_memory.specs.InPlace.{adopted, lent_at, taken_back, is_in_place_at, waits_at, are_all_here};
+ghost use Rattle.native_memory.specs.Search.{Picks, IsWritable};
+ghost use Rattle.native_memory.specs.Sound.{HasItsBytes, IsSound};
+ghost use Rattle.native_memory.specs.Laws.{LieApart};
+
+use crate::access::Access;
+use crate::block::LiveBlock;
+use crate::faults::{Fault, PlaceBad};
+use crate::kind::Kind;
+use crate::placement::{filled_up, new_contents, next_after, next_behind};
+use crate::search::{last_at, last_not_above};
+use crate::steps::Steps;
+use bound_base::{Bytes, Rights};
+use byteorder::{ByteOrder, LittleEndian};
+use std::alloc::Global;
+use std::collections::VecDeque;
+use std::marker::Model;
+use std::sync::ledger::Ledger;
+
+/// The live blocks of one address space.
+#[derive(Drop)]
+pub struct Memory {
+    blocks: VecDeque<LiveBlock>,
+    limit: u64,
+    next: u64,
+    edge: u64,
+    live: u64,
+    written: u64,
+}
+
+impl Model for Memory {
+    ghost use Rattle.native_memory.specs.AddressSpace.{AddressSpace};
+    ghost use Rattle.native_memory.specs.Sound.{IsKept};
+
+    ghost Value = { AddressSpace };
+
+    ghost view = { λ m. record { limit = m.limit; next = m.next; edge = m.edge; blocks = m.blocks.items; written = m.written } };
+
+    ghost invariant = { λ m. IsKept (record { limit = m.limit; next = m.next; edge = m.edge; blocks = m.blocks.items; written = m.written }) m.live };
+}
+
+/// The lowest address that a block may have.
+const LOWEST: u64 = 65_536;
+
+impl Memory {
+    /// Memory without blocks, of which at most `limit` bytes may live. It takes no memory.
+    pub fn new(alloc: Global, limit: u64) -> Memory
+        ensures { result ≡ empty limit }
+    {
+        Memory {
+            blocks: VecDeque::new(alloc),
+            limit,
+            next: LOWEST,
+            edge: LOWEST,
+            live: 0,
+            written: 0,
+        }
+    }
+
+    /// The live bytes.
+    pub fn live(&self) -> u64
+        ensures { result ≡ live_bytes self.now }
+    {
+        self.live
+    }
+
+    /// The address of the next block. It is 65,536 while no block was placed.
+    pub fn next(&self) -> u64
+        ensures { result ≡ self.now.next }
+    {
+        self.next
+    }
+
+    /// The end of the block that was placed last; one past its base where it has no bytes. It is 65,536 while no block was
+    /// placed.
+    pub fn edge(&self) -> u64
+        ensures { result ≡ self.now.edge }
+    {
+        self.edge
+    }
+
+    /// How many bytes were written in all. It stays at 2^64 - 1 once there.
+    pub fn written(&self) -> u64
+        ensures { result ≡ self.now.written }
+    {
+        self.written
+    }
+
+    /// The number of live heap blocks.
+    pub fn heap(&self) -> u64
+        ensures { result ≡ heap_blocks self.now }
+    {
+        let mut count = 0;
+        for at in 0..self.blocks.len() {
+            if self.blocks[at].is_heap() {
+                count += 1;
+            }
+        }
+        count
+    }
+
+    /// Each in-place block has its bytes.
+    pub fn all_here(&self) -> bool
+        ensures { result ≡ are_all_here self.now }
+    {
+        for at in 0..self.blocks.len() {
+            if !self.blocks[at].is_here() {
+                return false;
+            }
+        }
+        true
+    }
+
+    /// Places a block of zeros at the next address, and an in-place block without bytes. It answers its base.
+    ///
+    /// It answers `Room` exactly where the live bytes would pass the limit, or the next address 2^46. Where it places no
+    /// block nothing changes.
+    pub fn place(&mut self, size: u64, rights: Rights, kind: Kind) -> Result<u64, PlaceBad>
+        ensures base { IfOk result (λ base. base ≡ self.old.next) }
+        ensures ok { OnOk result (placed self.old size rights kind ≡ Some self.new) }
+        ensures err { IfErr result (λ bad. Refuses bad (placed self.old size rights kind)) }
+        ensures unchanged { OnErr result (self.new ≡ self.old) }
+    {
+        let base = self.next;
+        let Some(next) = next_after(base, size) else {
+            return Err(PlaceBad::Room);
+        };
+        if size > self.limit - self.live {
+            return Err(PlaceBad::Room);
+        }
+        let contents = new_contents(*self.blocks.allocator(), size, kind)?;
+        self.push(base, size, rights, kind, contents, next)?;
+        Ok(base)
+    }
+
+    /// Places a segment at an address at or behind the end of the block that was placed last, with `bytes` at its front and
+    /// zeros behind them. The next block will stand at its end rounded up to 16, and 16 on.
+    ///
+    /// It answers `Room` exactly where the live bytes would pass the limit, or the next address 2^46. Where it places no
+    /// block nothing changes.
+    pub fn place_at(
+        &mut self,
+        base: u64,
+        bytes: &[u8],
+        size: u64,
+        rights: Rights,
+    ) -> Result<(), PlaceBad>
+        requires behind { self.old.edge ≤ base }
+        requires fits { length bytes.now ≤ size }
+        ensures ok { OnOk result (placed_at self.old base bytes.now size rights ≡ Some self.new) }
+        ensures err { IfErr result (λ bad. Refuses bad (placed_at self.old base bytes.now size rights)) }
+        ensures unchanged { OnErr result (self.new ≡ self.old) }
+    {
+        let Some(next) = next_behind(base, size) else {
+            return Err(PlaceBad::Room);
+        };
+        if size > self.limit - self.live {
+            return Err(PlaceBad::Room);
+        }
+        let contents = filled_up(*self.blocks.allocator(), bytes, size)?;
+        self.push(base, size, rights, Kind::Segment, Some(contents), next)?;
+        Ok(())
+    }
+
+    /// Ends the live block with this base. It is false exactly where no live block has it, and then nothing changes.
+    pub fn end(&mut self, base: u64) -> bool
+        ensures { Does result (ended self.old base) self.old self.new }
+    {
+        let Some(at) = self.at_base(base) else {
+            return false;
+        };
+        match self.blocks.remove(at) {
+            Some(gone) => {
+                self.live -= gone.size();
+                true
+            }
+            None => false,
+        }
+    }
+
+    /// Gives the in-place block with this base its bytes, which are moved and not copied. Where no in-place block stands
+    /// there that is without bytes and has their length, it hands them back, and nothing changes.
+    pub fn adopt(&mut self, base: u64, body: Bytes) -> Option<Bytes>
+        ensures done { IfNone result (adopted self.old base body ≡ Some self.new) }
+        ensures refused { OnSome result (adopted self.old base body ≡ None) }
+        ensures unchanged { OnSome result (self.new ≡ self.old) }
+        ensures back { IfSome result (λ back. back ≡ body) }
+    {
+        let len = body.len() as u64;
+        match self.waiting(base, len) {
+            Some(at) => {
+                let _ = self.blocks[at].replace(Some(body.into_vec()));
+                None
+            }
+            None => Some(body),
+        }
+    }
+
+    /// Takes the bytes of the in-place block with this base, which are moved and not copied. None exactly where no in-place
+    /// block with bytes stands there, and then nothing changes.
+    pub fn take_back(&mut self, base: u64) -> Option<Bytes>
+        ensures bytes { result ≡ lent_at self.old base }
+        ensures taken { OnSome result (self.new ≡ taken_back self.old base) }
+        ensures unchanged { IfNone result (self.new ≡ self.old) }
+    {
+        let at = self.in_place(base)?;
+        if !self.blocks[at].has_contents() {
+            return None;
+        }
+        let contents = self.blocks[at].replace(None)?;
+        Some(Bytes::from_vec(contents))
+    }
+
+    /// The blocks lie one after another, no two share an address, each lies between 65,536 and the next address, and the live
+    /// bytes are within the limit. The contract is the law; the call does nothing.
+    pub fn blocks_lie_apart(&self)
+        ensures sound { IsSound self.now }
+        ensures apart { LieApart self.now }
+    {
+        let _blocks = &self.blocks;
+    }
+
+    /// Reads the bytes of a range. A range of no bytes never faults.
+    ///
+    /// It faults exactly where no one live block that may be read covers the range, or the block is an in-place one whose
+    /// bytes are elsewhere. Then `into` is as it was.
+    pub fn read(&self, addr: u64, into: &mut [u8]) -> Result<(), Fault>
+        ensures ok { OnOk result (bytes_at may_read self.now addr (length into.old) ≡ Some into.new) }
+        ensures err { OnErr result (bytes_at may_read self.now addr (length into.old) ≡ None) }
+        ensures unchanged { OnErr result (into.new ≡ into.old) }
+        ensures fault { IfErr result (λ fault. fault ≡ record { addr = addr; len = length into.old; write = false }) }
+    {
+        let len = into.len() as u64;
+        match self.bytes_at(addr, len, Access::Read) {
+            Some(bytes) => {
+                into.copy_from_slice(bytes);
+                Ok(())
+            }
+            None => Err(Fault {
+                addr,
+                len,
+                write: false,
+            }),
+        }
+    }
+
+    /// The word of four bytes at an address, lowest byte first. It faults exactly where no one live block that may be
+    /// executed covers them.
+    pub fn fetch(&self, pc: u64) -> Result<u32, Fault>
+        ensures ok { IfOk result (λ word. word_at self.now pc ≡ Some word) }
+        ensures err { OnErr result (word_at self.now pc ≡ None) }
+        ensures fault { IfErr result (λ fault. fault ≡ record { addr = pc; len = 4; write = false }) }
+    {
+        match self.bytes_at(pc, 4, Access::Execute) {
+            Some(bytes) => Ok(LittleEndian::read_u32(bytes)),
+            None => Err(Fault {
+                addr: pc,
+                len: 4,
+                write: false,
+            }),
+        }
+    }
+
+    /// Writes bytes from an address on. A range of no bytes never faults.
+    ///
+    /// It faults exactly where no one live block that may be written covers the range, or the block is an in-place one
+    /// whose bytes are elsewhere. Then nothing changes.
+    pub fn write(&mut self, addr: u64, from: &[u8]) -> Result<(), Fault>
+        ensures ok { OnOk result (written_at self.old addr from.now ≡ Some self.new) }
+        ensures err { OnErr result (written_at self.old addr from.now ≡ None) }
+        ensures unchanged { OnErr result (self.new ≡ self.old) }
+        ensures fault { IfErr result (λ fault. fault ≡ record { addr = addr; len = length from.now; write = true }) }
+    {
+        let len = from.len() as u64;
+        if len == 0 {
+            return Ok(());
+        }
+        match self.writable(addr, len) {
+            Some(at) => {
+                self.blocks[at].write(addr, from);
+                self.written = self.written.saturating_add(len);
+                Ok(())
+            }
+            None => Err(Fault {
+                addr,
+                len,
+                write: true,
+            }),
+        }
+    }
+
+    /// A read of the range, or a write, wouldn't fault.
+    pub fn holds(&self, addr: u64, len: u64, write: bool) -> bool
+        ensures { result ≡ is_some (bytes_at (right_to write) self.now addr len) }
+    {
+        let access = if write { Access::Write } else { Access::Read };
+        self.bytes_at(addr, len, access).is_some()
+    }
+
+    /// The base of the live block in which the address lies. A step is an entry of the list of blocks that is read.
+    pub fn find<L: Ledger>(&self, addr: u64, steps: &mut Steps<L>) -> Option<u64>
+        ensures base { result ≡ base_of self.now addr }
+        ensures cost { 2 ^ (steps.new - steps.old) ≤ 2 * length self.now.blocks + 1 }
+        ensures count { steps.old ≤ steps.new }
+    {
+        let it = last_not_above(&self.blocks, addr, steps)?;
+        if addr - it.base < it.size {
+            Some(it.base)
+        } else {
+            None
+        }
+    }
+
+    /// The size, rights and kind of the live block with this base.
+    pub fn block_at(&self, base: u64) -> Option<(u64, Rights, Kind)>
+        ensures { result ≡ option_map described (block_with self.now base) }
+    {
+        let at = self.at_base(base)?;
+        let block = &self.blocks[at];
+        Some((block.size(), block.rights(), block.kind()))
+    }
+
+    /// The bytes of a range that one live block with the right covers.
+    fn bytes_at(&self, addr: u64, len: u64, access: Access) -> Option<&[u8]>
+        ensures value { option_copied result ≡ bytes_at (right_of access) self.now addr len }
+        ensures len { IfSome result (λ bytes. length bytes.now ≡ len) }
+    {
+        if len == 0 {
+            return Some(&[]);
+        }
+        let at = self.covering(addr, len)?;
+        self.blocks[at].part(addr, len, access)
+    }
+
+    /// The place of the block that covers a range, where it may be written.
+    fn writable(&self, addr: u64, len: u64) -> Option<usize>
+        requires { 0 < len }
+        ensures { IsWritable self.now addr len result }
+    {
+        let at = self.covering(addr, len)?;
+        if self.blocks[at].part(addr, len, Access::Write).is_some() {
+            Some(at)
+        } else {
+            None
+        }
+    }
+
+    /// The place of the block that covers a range.
+    fn covering(&self, addr: u64, len: u64) -> Option<usize>
+        requires { 0 < len }
+        ensures { Picks (covers addr len) self.now.blocks result }
+    {
+        let it = last_at(&self.blocks, addr)?;
+        let start = addr - it.base;
+        if start <= it.size && len <= it.size - start {
+            Some(it.at)
+        } else {
+            None
+        }
+    }
+
+    /// The place of the block with a base.
+    fn at_base(&self, base: u64) -> Option<usize>
+        ensures { Picks (stands_at base) self.now.blocks result }
+    {
+        let it = last_at(&self.blocks, base)?;
+        if it.base == base { Some(it.at) } else { None }
+    }
+
+    /// The place of the in-place block with a base.
+    fn in_place(&self, base: u64) -> Option<usize>
+        ensures { Picks (is_in_place_at base) self.now.blocks result }
+    {
+        let at = self.at_base(base)?;
+        if self.blocks[at].is_in_place() {
+            Some(at)
+        } else {
+            None
+        }
+    }
+
+    /// The place of that block, where it has this size and is without bytes.
+    fn waiting(&self, base: u64, len: u64) -> Option<usize>
+        ensures { Picks (waits_at base len) self.now.blocks result }
+    {
+        let at = self.in_place(base)?;
+        let block = &self.blocks[at];
+        if !block.has_contents() && block.size() == len {
+            Some(at)
+        } else {
+            None
+        }
+    }
+
+    /// Adds a block behind the others. There is room for it.
+    fn push(
+        &mut self,
+        base: u64,
+        size: u64,
+        rights: Rights,
+        kind: Kind,
+        contents: Option<Vec<u8>>,
+        next: u64,
+    ) -> Result<(), PlaceBad>
+        requires behind { self.old.edge ≤ base }
+        requires room { has_room self.old size next ≡ true }
+        requires end { base + max size 1 ≤ next }
+        requires whole { HasItsBytes size kind (listed contents) }
+        ensures ok { OnOk result (self.new ≡ with_behind self.old (record { base = base; size = size; rights = rights; kind = kind; contents = listed contents }) next) }
+        ensures err { OnErr result (self.new ≡ self.old) }
+        ensures memory { IfErr result (λ bad. bad ≡ PlaceBad.Memory) }
+    {
+        let block = LiveBlock::new(*self.blocks.allocator(), base, size, rights, kind, contents)?;
+        self.blocks.push_back(block)?;
+        self.live += size;
+        self.edge = base + size.max(1);
+        self.next = next;
+        Ok(())
+    }
+}
