@@ -32,8 +32,8 @@ pub fn quotients_and_remainders_belong_together()
     ensures { QuotientsAndRemaindersBelongTogether }
 {}
 
-/// Div, div.un, rem and rem.un of two numbers of one kind give DivideByZero where the divisor is 0, and no other case
-/// does.
+/// Div, div.un, rem and rem.un of two numbers that meet in a kind give DivideByZero where the divisor is 0, and no other
+/// case does.
 pub fn divisors_of_zero_divide_by_zero()
     ensures { DivisorsOfZeroDivideByZero }
 {}
