@@ -16,7 +16,7 @@ use Rattle.cil_arith.specs.Kinds.{Kind, Int32, Int64, NativeInt, kind_of, width,
 use Rattle.cil_arith.specs.Arithmetic.{rule, result_kind, checked, divided, binary_of}
 use Rattle.cil_arith.specs.Laws.{IsNumber, AreQuotientAndRemainder, quotient_op, remainder_op, QuotientsAndRemaindersBelongTogether, IsDivision, DivisorsOfZeroDivideByZero, LeastByMinusOneOverflows}
 use Rattle.cil_arith.proofs.Bits.{holds_signed, holds_unsigned, of_z_below, read_wrapped, nonzero}
-use Rattle.cil_arith.proofs.Inverted.{answer_in, taken_apart, put_together, failure, first_fits, second_fits, some_same}
+use Rattle.cil_arith.proofs.Inverted.{answer_in, taken_apart, put_together, failure, at_kind, first_fits, second_fits, some_same}
 
 -- ---- what a division answered
 
@@ -234,12 +234,6 @@ never_unsigned kind f a b in_a e =
     let n = cast_unsigned w b in
     let h = too_great Unsigned w f (pos m) (pos n) e in
     false≢true (sym h.1 ∙ (holds_unsigned w (m / n)).1 (omega (arith, div-le_self m n, of_z_below w a in_a)))
-
--- the answer is that of the kind in which the numbers meet
-at_kind : (op : BinOp) (a b : Num) (kind : Kind) → result_kind (rule op) (kind_of a) (kind_of b) ≡ Some kind → binary_of op a b ≡ Some (Err Overflow) → answer_in op a b kind ≡ Err Overflow
-at_kind op a b kind m e =
-    let h = failure op a b Overflow e in
-    subst (λ k. answer_in op a b k ≡ Err Overflow) (some_same h.kind kind (sym h.in_kind ∙ m)) h.answer
 
 pub least_by_minus_one_overflows : LeastByMinusOneOverflows
 least_by_minus_one_overflows a b kind f g m =

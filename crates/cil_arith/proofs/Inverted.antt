@@ -5,6 +5,7 @@ use Rattle.std.specs.Option.{option_map}
 use Rattle.std.specs.Int.{w32, w64}
 use Rattle.cil_arith.specs.declared.num.Num.{Num}
 use Rattle.cil_arith.specs.declared.num.Arith.{Arith}
+use Rattle.cil_arith.specs.declared.num.Arith.TheVariants.{Overflow}
 use Rattle.cil_arith.specs.declared.operations.BinOp.{BinOp}
 use Rattle.cil_arith.specs.Kinds.{Kind, Int32, Int64, NativeInt, kind_of, width, whole, number, common_kind}
 use Rattle.cil_arith.specs.Arithmetic.{rule, result_kind, answer, in_kind, binary_of}
@@ -69,6 +70,12 @@ failure op a b error e =
 pub put_together : (op : BinOp) (a b : Num) (kind : Kind) (r : Result ℤ Arith) → result_kind (rule op) (kind_of a) (kind_of b) ≡ Some kind → answer_in op a b kind ≡ r → binary_of op a b ≡ Some (in_kind kind r)
 put_together op a b kind r e h =
     ap (option_map (λ k. in_kind k (answer_in op a b k))) e ∙ ap (λ x. Some (in_kind kind x)) h
+
+-- the answer is that of the kind in which the numbers meet
+pub at_kind : (op : BinOp) (a b : Num) (kind : Kind) → result_kind (rule op) (kind_of a) (kind_of b) ≡ Some kind → binary_of op a b ≡ Some (Err Overflow) → answer_in op a b kind ≡ Err Overflow
+at_kind op a b kind m e =
+    let h = failure op a b Overflow e in
+    subst (λ k. answer_in op a b k ≡ Err Overflow) (some_same h.kind kind (sym h.in_kind ∙ m)) h.answer
 
 -- ---- the operands in the kind in which they meet
 

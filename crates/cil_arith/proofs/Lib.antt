@@ -5,6 +5,7 @@ pub mod Cutting
 pub mod Divided
 pub mod Inverted
 pub mod Kept
+pub mod Outside
 pub mod Plain
 pub mod Shifted
 pub mod Worked

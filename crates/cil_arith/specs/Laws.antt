@@ -1,6 +1,7 @@
 -- What holds of the operations for all numbers, in the instructions' own words.
-use Rattle.std.specs.Prelude.{◌≡◌, ◌⊎◌, ◌<◌, ◌↔◌, ℤ, pos, negsuc, ◌+ℤ◌, ◌*ℤ◌, ◌≤ℤ◌, unsigned_abs, FitsSigned, true, not, Some, Ok, Err}
+use Rattle.std.specs.Prelude.{◌≡◌, ◌⊎◌, ◌<◌, ◌↔◌, ℤ, pos, negsuc, ◌+ℤ◌, ◌*ℤ◌, ◌<ℤ◌, ◌≤ℤ◌, unsigned_abs, FitsSigned, true, not, Some, Ok, Err}
 use Rattle.std.specs.Option.{option_map}
+use Rattle.std.specs.Int.{Width}
 use Rattle.cil_arith.specs.declared.num.Num.{Num}
 use Rattle.cil_arith.specs.declared.num.Arith.TheVariants.{DivideByZero, Overflow}
 use Rattle.cil_arith.specs.declared.operations.BinOp.{BinOp}
@@ -9,8 +10,8 @@ use Rattle.cil_arith.specs.declared.operations.UnOp.TheVariants.{Neg, Not}
 use Rattle.cil_arith.specs.declared.operations.CmpOp.{CmpOp}
 use Rattle.cil_arith.specs.declared.operations.CmpOp.TheVariants.{Eq, Ne, Ge, GeUn, Gt, GtUn, Le, LeUn, Lt, LtUn}
 use Rattle.cil_arith.specs.declared.operations.ConvOp.{ConvOp}
-use Rattle.cil_arith.specs.Kinds.{Kind, kind_of, width, whole, number, Reading, Signed, Unsigned, read, least, holds, common_kind}
-use Rattle.cil_arith.specs.Arithmetic.{binary_of, unary_of}
+use Rattle.cil_arith.specs.Kinds.{Kind, kind_of, width, whole, number, Reading, Signed, Unsigned, read, least, greatest, holds, common_kind}
+use Rattle.cil_arith.specs.Arithmetic.{Checks, rule, binary_of, unary_of}
 use Rattle.cil_arith.specs.Comparisons.{comparison_of}
 use Rattle.cil_arith.specs.Conversions.{IntegerType, Cuts, Keeps, conversion, source, conversion_of}
 
@@ -34,6 +35,18 @@ plain op = op
 abbrev pub CheckedFormsGivePlainResults : Type 0
 CheckedFormsGivePlainResults =
     (op : BinOp) (a b c : Num) → IsNumber a → IsNumber b → binary_of op a b ≡ Some (Ok c) → binary_of (plain op) a b ≡ Some (Ok c)
+
+-- a whole number that a width doesn't hold in a reading
+abbrev pub IsOutside : Reading → Width → ℤ → Type 0
+IsOutside reading w z = (z <ℤ least reading w) ⊎ (greatest reading w <ℤ z)
+
+-- a checked form of numbers that meet overflows where the whole result, of the operands in its reading, lies outside
+abbrev pub CheckedFormsOverflowOutside : Type 0
+CheckedFormsOverflowOutside =
+    (op : BinOp) (reading : Reading) (f : ℤ → ℤ → ℤ) (a b : Num) (kind : Kind)
+    → rule op ≡ Checks reading f
+    → common_kind (kind_of a) (kind_of b) ≡ Some kind
+    → (binary_of op a b ≡ Some (Err Overflow)) ↔ IsOutside reading (width kind) (f (read reading (width kind) (whole a)) (read reading (width kind) (whole b)))
 
 -- a quotient and a remainder: the quotient is rounded toward zero, and the remainder has the dividend's sign
 pub record AreQuotientAndRemainder (a b q r : ℤ) : Type 0 where
@@ -95,6 +108,13 @@ NegationsAndComplements =
     × (binary_of Xor a (number (kind_of a) (negsuc 0)) ≡ Some (Ok (unary_of Not a)))
 
 -- ---- conversions
+
+-- a checked conversion overflows where the number, as it is read, lies outside the target
+abbrev pub CheckedConversionsOverflowOutside : Type 0
+CheckedConversionsOverflowOutside =
+    (op : ConvOp) (reading : Reading) (target : IntegerType) (a : Num)
+    → conversion op ≡ Keeps reading target
+    → (conversion_of op a ≡ Err Overflow) ↔ IsOutside target.reading target.size (source reading a)
 
 -- a checked conversion that succeeds keeps the number, read as the source was and as the target is
 abbrev pub CheckedConversionsKeepTheNumber : Type 0

@@ -2,10 +2,12 @@
 
 ghost use Rattle.cil_arith.specs.Laws.{
   CheckedFormsGivePlainResults,
+  CheckedFormsOverflowOutside,
   QuotientsAndRemaindersBelongTogether,
   DivisorsOfZeroDivideByZero,
   LeastByMinusOneOverflows,
   NegationsAndComplements,
+  CheckedConversionsOverflowOutside,
   CheckedConversionsKeepTheNumber,
   CheckedConversionsGivePlainResults,
   ConversionsGiveNumbersOfTheTarget,
@@ -18,14 +20,20 @@ pub fn checked_forms_give_plain_results()
     ensures { CheckedFormsGivePlainResults }
 {}
 
+/// Add.ovf, sub.ovf and mul.ovf overflow where the whole result, of the operands read with their signs or without, lies
+/// outside the range of its kind, read so; nowhere else.
+pub fn checked_forms_overflow_outside()
+    ensures { CheckedFormsOverflowOutside }
+{}
+
 /// The dividend is the quotient times the divisor and the remainder. The remainder is less than the divisor, and has the
 /// dividend's sign.
 pub fn quotients_and_remainders_belong_together()
     ensures { QuotientsAndRemaindersBelongTogether }
 {}
 
-/// Div, div.un, rem and rem.un of two numbers of one kind give DivideByZero where the divisor is 0, and no other case
-/// does.
+/// Div, div.un, rem and rem.un of two numbers that meet in a kind give DivideByZero where the divisor is 0, and no other
+/// case does.
 pub fn divisors_of_zero_divide_by_zero()
     ensures { DivisorsOfZeroDivideByZero }
 {}
@@ -38,6 +46,11 @@ pub fn least_by_minus_one_overflows()
 /// Neg gives what sub gives for 0 and the number, and not what xor gives for the number and -1.
 pub fn negations_and_complements()
     ensures { NegationsAndComplements }
+{}
+
+/// A conv.ovf overflows where the number, read with its sign or without, lies outside the target's range, and nowhere else.
+pub fn checked_conversions_overflow_outside()
+    ensures { CheckedConversionsOverflowOutside }
 {}
 
 /// A conv.ovf that succeeds keeps the number, read as the source was and as the target is.
