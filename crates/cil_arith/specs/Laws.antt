@@ -99,7 +99,7 @@ LeastByMinusOneOverflows =
     × ¬ (binary_of DivUn a b ≡ Some (Err Overflow))
     × ¬ (binary_of RemUn a b ≡ Some (Err Overflow))
 
--- neg gives the difference from 0, and not the exclusive or with a number whose bits are all 1
+-- `neg` gives 0 less the number, `not` the exclusive or with the number whose bits are all 1
 abbrev pub NegationsAndComplements : Type 0
 NegationsAndComplements =
     (a : Num)

@@ -23,8 +23,8 @@ pub fn fits(op: BinOp, a: Num, b: Num) -> bool
 }
 
 /// What an operation gives for two numbers that fit it, in the kind in which they meet; a shift's result has the kind of
-/// the value. The plain forms keep the low bits. Overflow: the result of a form with `.ovf`, or the quotient of a division
-/// or a remainder, isn't a number of that kind. DivideByZero: the divisor is 0.
+/// the value. The plain forms keep the low bits. Overflow: the result of a form with `.ovf` passes the range of that kind,
+/// read as the form reads its operands, or the quotient of a division or a remainder does. DivideByZero: the divisor is 0.
 pub fn binary(op: BinOp, a: Num, b: Num) -> Result<Num, Arith>
     requires { IsSome (binary_of op a b) }
     ensures { binary_of op a b ≡ Some result }

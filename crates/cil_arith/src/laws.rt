@@ -26,8 +26,8 @@ pub fn checked_forms_overflow_outside()
     ensures { CheckedFormsOverflowOutside }
 {}
 
-/// The dividend is the quotient times the divisor and the remainder. The remainder is less than the divisor, and has the
-/// dividend's sign.
+/// The dividend is the quotient times the divisor and the remainder. The remainder is nearer to 0 than the divisor, and has
+/// the dividend's sign.
 pub fn quotients_and_remainders_belong_together()
     ensures { QuotientsAndRemaindersBelongTogether }
 {}
@@ -43,7 +43,7 @@ pub fn least_by_minus_one_overflows()
     ensures { LeastByMinusOneOverflows }
 {}
 
-/// Neg gives what sub gives for 0 and the number, and not what xor gives for the number and -1.
+/// `neg` gives what `sub` gives for 0 and the number, `not` what `xor` gives for the number and -1.
 pub fn negations_and_complements()
     ensures { NegationsAndComplements }
 {}

@@ -1,5 +1,5 @@
 //! The numeric instructions of CIL on integers: arithmetic, conversions and comparisons (ECMA-335 III.1.5 and III.3).
-//! It takes no memory.
+//! It allocates nothing.
 #![tactic(auto)]
 
 mod arithmetic;

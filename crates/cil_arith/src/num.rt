@@ -23,7 +23,8 @@ pub enum Arith {
     /// The divisor is 0 (`System.DivideByZeroException`).
     #[error("division by zero")]
     DivideByZero,
-    /// The result isn't a number of its kind (`System.OverflowException`, an `ArithmeticException`).
+    /// The result doesn't fit: a form with `.ovf` passes the range of its kind, read as the form reads its operands; a
+    /// conversion the range of its target; a quotient that of its kind (`System.OverflowException`, an `ArithmeticException`).
     #[error("arithmetic overflow")]
     Overflow,
 }

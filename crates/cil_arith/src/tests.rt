@@ -1,4 +1,4 @@
-//! The numbers of the standard's text, at the edges of their kinds.
+//! Numbers at the edges of their kinds, with results worked out from the standard's rules.
 
 use crate::{
     Arith, BinOp, CmpOp, ConvOp, Num, UnOp, binary, comparable, compare, convert, fits, unary,

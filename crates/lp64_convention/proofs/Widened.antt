@@ -1,11 +1,11 @@
 -- Widened integers, size by size.
-use Rattle.std.proofs.Common.{◌≡◌, ℕ, ◌*◌, ◌%◌, ◌^◌, ◌<◌, ◌⊎◌, Bool, true, false, ℤ, pos, sym, ap, ◌∙◌, ⊎_elim, arith, subst, max}
+use Rattle.std.proofs.Common.{◌≡◌, ℕ, ◌*◌, ◌%◌, ◌^◌, ◌<◌, ◌⊎◌, Bool, true, false, ℤ, pos, sym, ap, ◌∙◌, ⊎_elim, inl, inr, arith, subst, max}
 use Rattle.std.proofs.lemmas.Bool.Decides.{nat_tests}
 use Rattle.std.proofs.lemmas.Nat.{mod_below}
 use Rattle.std.specs.Int.Signed.{mag}
 use Rattle.std.specs.Prelude.{IsTrue}
 use Rattle.lp64_convention.specs.Widening.{is_integer_size, pattern, signed_of, integer_of, widened}
-use Rattle.lp64_convention.specs.Laws.{WidenedOnceIsWide, OnlyLowBytesMatter, SignedIntegersReadBack}
+use Rattle.lp64_convention.specs.Laws.{WidenedOnceIsWide, OnlyLowBytesMatter, SignedIntegersReadBack, UnsignedWordsAreSignExtended, NarrowUnsignedIntegersReadBack}
 use Rattle.lp64_convention.proofs.Patterns.{mod_small, pattern-signed_of, signed_of-pattern, within_more, extended_mod}
 
 -- the sizes, one by one
@@ -85,3 +85,10 @@ signed_integers_read_back bits width h = each_size (λ w. signed_of 64 (widened 
 -- the size and the sign of a type, known
 pub widened_at : (bits width n : ℕ) (signed v : Bool) (x : ℕ) → width ≡ n → signed ≡ v → widened bits n v ≡ x → x ≡ widened bits width signed
 widened_at bits width n signed v x e f h = sym (ap (λ w. widened bits w signed) e ∙ ap (λ s. widened bits n s) f ∙ h)
+
+pub unsigned_words_are_sign_extended : UnsignedWordsAreSignExtended
+unsigned_words_are_sign_extended bits = widened_4 bits false ∙ sym (widened_4 bits true)
+
+pub narrow_unsigned_integers_read_back : NarrowUnsignedIntegersReadBack
+narrow_unsigned_integers_read_back bits width (inl one) = rw one (widened_unsigned_1 bits)
+narrow_unsigned_integers_read_back bits width (inr two) = rw two (widened_unsigned_2 bits)

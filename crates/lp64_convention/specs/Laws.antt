@@ -1,5 +1,5 @@
 -- Laws of the calling convention.
-use Rattle.std.specs.Prelude.{◌≡◌, ℕ, ◌*◌, ◌%◌, ◌^◌, Bool, true, IsTrue}
+use Rattle.std.specs.Prelude.{◌≡◌, ◌⊎◌, ℕ, ◌*◌, ◌%◌, ◌^◌, Bool, true, false, IsTrue}
 use Rattle.lp64_convention.specs.Places.{word_size, place_of}
 use Rattle.lp64_convention.specs.Widening.{is_integer_size, signed_of, integer_of, widened}
 use Rattle.lp64_convention.specs.declared.places.Slot.TheVariants.{Stack}
@@ -27,3 +27,11 @@ OnlyLowBytesMatter =
 abbrev pub SignedIntegersReadBack : Type 0
 SignedIntegersReadBack =
     (bits width : ℕ) → IsTrue (is_integer_size width) → signed_of 64 (widened bits width true) ≡ integer_of bits width true
+
+-- an integer of 32 bits without a sign is widened as one with a sign
+abbrev pub UnsignedWordsAreSignExtended : Type 0
+UnsignedWordsAreSignExtended = (bits : ℕ) → widened bits 4 false ≡ widened bits 4 true
+
+-- an integer of 8 or 16 bits without a sign is its own number
+abbrev pub NarrowUnsignedIntegersReadBack : Type 0
+NarrowUnsignedIntegersReadBack = (bits width : ℕ) → (width ≡ 1) ⊎ (width ≡ 2) → widened bits width false ≡ bits % 2 ^ (8 * width)

@@ -1,6 +1,6 @@
 //! Laws of the calling convention: each function's contract is one.
 
-ghost use Rattle.lp64_convention.specs.Laws.{WordsHaveOwnPlaces, StackWordsAreAligned, WidenedOnceIsWide, OnlyLowBytesMatter, SignedIntegersReadBack};
+ghost use Rattle.lp64_convention.specs.Laws.{WordsHaveOwnPlaces, StackWordsAreAligned, WidenedOnceIsWide, OnlyLowBytesMatter, SignedIntegersReadBack, UnsignedWordsAreSignExtended, NarrowUnsignedIntegersReadBack};
 
 /// No two words of the arguments have one place.
 pub fn words_have_own_places()
@@ -25,4 +25,14 @@ pub fn only_low_bytes_matter()
 /// A widened signed integer, read as a signed number of 64 bits, is that integer.
 pub fn signed_integers_read_back()
     ensures { SignedIntegersReadBack }
+{}
+
+/// An unsigned integer of 32 bits is sign-extended as a signed one is.
+pub fn unsigned_words_are_sign_extended()
+    ensures { UnsignedWordsAreSignExtended }
+{}
+
+/// An unsigned integer of 8 or 16 bits fills its register as its own number.
+pub fn narrow_unsigned_integers_read_back()
+    ensures { NarrowUnsignedIntegersReadBack }
 {}

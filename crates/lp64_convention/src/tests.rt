@@ -7,6 +7,8 @@ fn integers_fill_their_registers(rt: HostRuntime) {
     laws::widened_once_is_wide();
     laws::only_low_bytes_matter();
     laws::signed_integers_read_back();
+    laws::unsigned_words_are_sign_extended();
+    laws::narrow_unsigned_integers_read_back();
     // a uint is widened by the sign of bit 31, as any integer of 32 bits
     assert_eq!(rt; widen(0xFFFF_FFFF, 4, false), u64::MAX);
     assert_eq!(rt; widen(0x7FFF_FFFF, 4, false), 0x7FFF_FFFF);

@@ -3,9 +3,9 @@
 ghost use Rattle.std.specs.Prelude.{◌≡◌, ◌-◌, ◌<◌, ◌≤◌, ◌^◌, IsTrue};
 ghost use Rattle.lp64_convention.specs.Widening.{is_integer_size, pattern, signed_of, widened};
 
-/// The register that an integer argument of `width` bytes fills, from the low `width` bytes of `bits`: widened by the
-/// sign of its type up to 32 bits, then sign-extended to 64 (RISC-V ELF psABI, Integer Calling Convention). The bits
-/// above are not looked at.
+/// What an integer argument of `width` bytes leaves in its register (RISC-V ELF psABI, Integer Calling Convention). Its bytes
+/// are the low ones of `bits`; what stands above them is not looked at. Its type's sign decides the bits up to 32, and bit 31
+/// all those above.
 pub fn widen(bits: u64, width: u8, signed: bool) -> u64
     requires { IsTrue (is_integer_size width) }
     ensures { result ≡ widened bits width signed }

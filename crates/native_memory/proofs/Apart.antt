@@ -33,7 +33,7 @@ apart_at from end (block ∷ rest) (suc i) (suc j) a b lie order is there = apar
 
 pub lie_apart : (space : AddressSpace) → IsSound space → LieApart space
 lie_apart space sound = record {
-  apart = λ i j a b order is there. let e : edge_of a ≤ b.base = apart_at _ _ space.blocks i j a b sound.apart order is there in omega arith;
+  apart = λ i j a b order is there. apart_at _ _ space.blocks i j a b sound.apart order is there;
   low = λ i a is. first_at _ _ space.blocks i a sound.apart is;
   high = λ i a is. let e : edge_of a ≤ space.edge = last_at _ _ space.blocks i a sound.apart is in omega (arith, sound.edge);
   room = sound.room;

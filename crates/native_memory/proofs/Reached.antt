@@ -1,26 +1,30 @@
 -- Memory after any number of changes: it stays sound, its edge never falls, and an address that has become free stays so.
-use Rattle.std.proofs.Common.{◌≡◌, ℕ, ◌-◌, ◌<◌, ◌≤◌, Bool, true, false, not, cond, if◌then◌else◌, List, [], ◌∷◌, ◌++◌, length, map, replicate, Option, Some, None, arith, refl, subst}
+use Rattle.std.proofs.Common.{◌≡◌, ◌∙◌, ℕ, ◌-◌, ◌<◌, ◌≤◌, Bool, true, false, not, cond, if◌then◌else◌, List, [], ◌∷◌, ◌++◌, length, map, replicate, Option, Some, None, arith, refl, subst}
 use Rattle.std.specs.Prelude.{option_map}
 use Rattle.std.specs.List.{filter, find}
-use Rattle.std.proofs.lemmas.Bool.Decides.{nat_tests}
 use Rattle.std.proofs.lemmas.List.{length-append, length-replicate}
 use Rattle.native_memory.specs.declared.kind.Kind.{Kind}
 use Rattle.native_memory.specs.declared.kind.Kind.TheVariants.{Segment, Stack, Errno, Heap, Temp, InPlace}
 use Rattle.native_memory.specs.AddressSpace.{Block, AddressSpace, live_bytes, changed}
 use Rattle.native_memory.specs.Ranges.{covers, write_in, counted, with_written, written_at}
-use Rattle.native_memory.specs.Placement.{edge_of, has_room, with_behind, new_contents, placed, placed_at, stands_at, ended, holds_address, base_of}
+use Rattle.native_memory.specs.Placement.{edge_of, has_room, with_behind, new_contents, placed, placed_at, stands_at, block_with, ended, holds_address, base_of}
 use Rattle.native_memory.specs.InPlace.{is_in_place_at, waits_at, with_contents, adopted}
 use Rattle.native_memory.specs.Sound.{HasItsBytes, IsWhole, IsSound}
 use Rattle.native_memory.specs.Search.{FailsAll}
 use Rattle.native_memory.specs.Laws.{Follows, Places, PlacesAt, Writes, Ends, Adopts, TakesBack, Reaches, Stays, Goes}
-use Rattle.native_memory.proofs.Picks.{find_fails}
+use Rattle.native_memory.proofs.Picks.{find_fails, AsksFor, asks_address, asks_base}
 use Rattle.native_memory.proofs.Kept.{KeepsPlace, changed_sound, changed_keeps, changed_whole, filtered_sound, with_block_sound, room_is, contents_keep, writes_keep, adopts_whole, takes_whole, writes_whole}
+
+-- a test that asks where a block lies, for an address
+pub record AsksOfPlace (test : Block → Bool) (addr : ℕ) : Type 0 where
+  pub asks : AsksFor test addr
+  pub place : (a b : Block) → a.base ≡ b.base → a.size ≡ b.size → test a ≡ test b
 
 -- a state that goes on from another: the edge hasn't fallen, and no address below it has been given out again
 pub record GoesOn (old new : AddressSpace) : Type 0 where
   pub sound : IsSound new
   pub edge : old.edge ≤ new.edge
-  pub free : (addr : ℕ) → addr < old.edge → FailsAll (holds_address addr) old.blocks → FailsAll (holds_address addr) new.blocks
+  pub free : (test : Block → Bool) (addr : ℕ) → AsksOfPlace test addr → addr < old.edge → FailsAll test old.blocks → FailsAll test new.blocks
 
 fails_if : (found : Bool) (test : Block → Bool) (block : Block) (rest : List Block) → test block ≡ found → cond found (Some block) (find test rest) ≡ None
     → (find test rest ≡ None → FailsAll test rest) → (test block ≡ false) × FailsAll test rest
@@ -32,11 +36,13 @@ fails_of_find test [] none = tt
 fails_of_find test (block ∷ rest) none = fails_if (test block) test block rest refl none (fails_of_find test rest)
 
 same : (old : AddressSpace) → IsSound old → GoesOn old old
-same old sound = record { sound = sound; edge = omega arith; free = λ addr low free. free }
+same old sound = record { sound = sound; edge = omega arith; free = λ test addr asks low free. free }
 
-fails_mapped : (change : Block → Block) (addr : ℕ) (blocks : List Block) → KeepsPlace change → FailsAll (holds_address addr) blocks → FailsAll (holds_address addr) (map change blocks)
-fails_mapped change addr [] keeps fails = tt
-fails_mapped change addr (block ∷ rest) keeps fails = (rw (keeps.base block, keeps.size block) fails.0, fails_mapped change addr rest keeps fails.1)
+fails_mapped : (test : Block → Bool) (change : Block → Block) (addr : ℕ) (blocks : List Block) → AsksOfPlace test addr → KeepsPlace change → FailsAll test blocks
+    → FailsAll test (map change blocks)
+fails_mapped test change addr [] asks keeps fails = tt
+fails_mapped test change addr (block ∷ rest) asks keeps fails =
+    (asks.place (change block) block (keeps.base block) (keeps.size block) ∙ fails.0, fails_mapped test change addr rest asks keeps fails.1)
 
 fails_kept : (keep : Bool) (test : Block → Bool) (block : Block) (more : List Block) → test block ≡ false → FailsAll test more → FailsAll test (cond keep (block ∷ more) more)
 fails_kept true test block more fails others = (fails, others)
@@ -56,7 +62,7 @@ changed_on old test change written keeps whole sound = record {
   sound = changed_sound old (changed test change) written (changed_keeps test change keeps)
       (λ block is_whole. changed_whole (test block) block (change block) (λ holds. whole block holds is_whole) is_whole) sound;
   edge = omega arith;
-  free = λ addr low free. fails_mapped (changed test change) addr old.blocks (changed_keeps test change keeps) free;
+  free = λ other addr asks low free. fails_mapped other (changed test change) addr old.blocks asks (changed_keeps test change keeps) free;
 }
 
 behind_on : (old : AddressSpace) (block : Block) (next : ℕ) → IsSound old → old.edge ≤ block.base → edge_of block ≤ next → IsWhole block → has_room old block.size next ≡ true
@@ -65,7 +71,7 @@ unfolding live_bytes
 behind_on old block next sound behind end whole room = record {
   sound = with_block_sound old block next sound behind end whole (room_is _ _ _ _ room).0 (room_is _ _ _ _ room).1;
   edge = omega arith;
-  free = λ addr low free. fails_appended (holds_address addr) old.blocks block free (grind (arith, nat_tests));
+  free = λ test addr asks low free. fails_appended test old.blocks block free (asks.asks.above block (omega arith));
 }
 
 is_on : (old now new : AddressSpace) → GoesOn old now → Some now ≡ Some new → GoesOn old new
@@ -93,7 +99,7 @@ filtered_on : (old : AddressSpace) (keep : Block → Bool) → IsSound old → G
 filtered_on old keep sound = record {
   sound = filtered_sound old keep sound;
   edge = omega arith;
-  free = λ addr low free. fails_filtered keep (holds_address addr) old.blocks free;
+  free = λ test addr asks low free. fails_filtered keep test old.blocks free;
 }
 
 new_whole : (size : ℕ) (kind : Kind) → HasItsBytes size kind (new_contents size kind)
@@ -132,15 +138,27 @@ reaches_on old new sound (Goes _ between _ reaches follows) =
     record {
       sound = after.sound;
       edge = omega (arith, before.edge, after.edge);
-      free = λ addr low free. after.free addr (omega (arith, before.edge)) (before.free addr low free);
+      free = λ test addr asks low free. after.free test addr asks (omega (arith, before.edge)) (before.free test addr asks low free);
     }
 
 none_of : (found : Option Block) → option_map (λ block. block.base) found ≡ None → found ≡ None
 none_of (Some block) none = cc
 none_of None none = refl
 
+address_asks : (addr : ℕ) → AsksOfPlace (holds_address addr) addr
+address_asks addr = record { asks = asks_address addr; place = λ a b base size. rw (base, size) refl }
+
+base_asks : (base : ℕ) → AsksOfPlace (stands_at base) base
+base_asks base = record { asks = asks_base base; place = λ a b same_base size. rw same_base refl }
+
 pub stays_free : (old new : AddressSpace) (addr : ℕ) → IsSound old → addr < old.edge → base_of old addr ≡ None → Reaches old new → base_of new addr ≡ None
 unfolding base_of
 stays_free old new addr sound low none reaches =
     let free : FailsAll (holds_address addr) old.blocks = fails_of_find (holds_address addr) old.blocks (none_of _ none) in
-    rw (find_fails (holds_address addr) new.blocks ((reaches_on old new sound reaches).free addr low free)) refl
+    rw (find_fails (holds_address addr) new.blocks ((reaches_on old new sound reaches).free (holds_address addr) addr (address_asks addr) low free)) refl
+
+pub base_stays_free : (old new : AddressSpace) (base : ℕ) → IsSound old → base < old.edge → block_with old base ≡ None → Reaches old new → block_with new base ≡ None
+unfolding block_with
+base_stays_free old new base sound low none reaches =
+    let free : FailsAll (stands_at base) old.blocks = fails_of_find (stands_at base) old.blocks none in
+    find_fails (stands_at base) new.blocks ((reaches_on old new sound reaches).free (stands_at base) base (base_asks base) low free)

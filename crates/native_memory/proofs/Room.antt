@@ -1,11 +1,13 @@
 -- Whether there is room for a block.
-use Rattle.std.proofs.Common.{◌≡◌, ℕ, ◌+◌, ◌-◌, ◌^◌, ◌<◌, ◌≤◌, nat_le, Bool, true, false, ◌&&◌, if◌then◌else◌, List, ◌++◌, length, replicate, Some, None, arith, refl}
+use Rattle.std.proofs.Common.{◌≡◌, ℕ, ◌+◌, ◌-◌, ◌^◌, ◌<◌, ◌≤◌, nat_le, Bool, true, false, ◌&&◌, if◌then◌else◌, List, ◌++◌, length, replicate, Option, Some, None, arith, refl}
 use Rattle.std.proofs.lemmas.Bool.Decides.{nat_tests}
 use Rattle.bound_base.specs.declared.limits.Rights.{Rights}
 use Rattle.native_memory.specs.declared.kind.Kind.{Kind}
 use Rattle.native_memory.specs.declared.kind.Kind.TheVariants.{Segment}
+use Rattle.native_memory.specs.declared.faults.PlaceBad.{PlaceBad}
+use Rattle.native_memory.specs.declared.faults.PlaceBad.TheVariants.{Memory}
 use Rattle.native_memory.specs.AddressSpace.{AddressSpace, live_bytes}
-use Rattle.native_memory.specs.Placement.{up_to_16, within_top, with_behind, new_contents, placed, placed_at}
+use Rattle.native_memory.specs.Placement.{Refuses, up_to_16, within_top, with_behind, new_contents, placed, placed_at}
 
 top_if : (test : Bool) (next : ℕ) → (if test then Some next else None) ≡ None → test ≡ false
 top_if true next none = cc
@@ -57,3 +59,7 @@ pub placed_at_is : (space : AddressSpace) (base : ℕ) (bytes : List ℕ) (size 
     → placed_at space base bytes size rights ≡ Some (with_behind space (record { base = base; size = size; rights = rights; kind = Segment; contents = Some (bytes ++ replicate (size - length bytes) 0) }) next)
 unfolding placed_at
 placed_at_is space base bytes size rights next top fits within = rw (room _ _ _ _ _ fits within top, (top_then _ _ _ top).1) refl
+
+-- an error for want of memory, where there is room
+pub refuses_memory : (bad : PlaceBad) (change : Option AddressSpace) (new : AddressSpace) → bad ≡ Memory → change ≡ Some new → Refuses bad change
+refuses_memory bad change new memory some = rw (memory, some) refl

@@ -5,15 +5,16 @@ use Rattle.bound_base.specs.declared.limits.Rights.{Rights}
 use Rattle.native_memory.specs.declared.kind.Kind.{Kind}
 use Rattle.native_memory.specs.AddressSpace.{Block, AddressSpace, lowest, live_bytes}
 use Rattle.native_memory.specs.Ranges.{written_at}
-use Rattle.native_memory.specs.Placement.{placed, placed_at, ended, base_of, holds_address}
+use Rattle.native_memory.specs.Placement.{edge_of, placed, placed_at, ended, block_with, base_of, holds_address}
 use Rattle.native_memory.specs.InPlace.{adopted, taken_back}
 use Rattle.native_memory.specs.Sound.{IsSound}
 
--- two live blocks share no address, each lies between the lowest address and the next, and the live bytes are within the limit
+-- each block ends before the next begins, counted as one byte long where it has none; all lie between the lowest address and
+-- the next, and the live bytes are within the limit
 pub record LieApart (space : AddressSpace) : Type 0 where
-  pub apart : (i j : ℕ) (a b : Block) → i < j → slice_get space.blocks i ≡ Some a → slice_get space.blocks j ≡ Some b → a.base + a.size ≤ b.base
+  pub apart : (i j : ℕ) (a b : Block) → i < j → slice_get space.blocks i ≡ Some a → slice_get space.blocks j ≡ Some b → edge_of a ≤ b.base
   pub low : (i : ℕ) (a : Block) → slice_get space.blocks i ≡ Some a → lowest ≤ a.base
-  pub high : (i : ℕ) (a : Block) → slice_get space.blocks i ≡ Some a → a.base + a.size ≤ space.next
+  pub high : (i : ℕ) (a : Block) → slice_get space.blocks i ≡ Some a → edge_of a ≤ space.next
   pub room : live_bytes space ≤ space.limit
 
 -- the byte at an address of a live block that has its bytes
@@ -40,7 +41,12 @@ pub data Reaches : AddressSpace → AddressSpace → Type 0 where
   Stays : (space : AddressSpace) → Reaches space space
   Goes : (old between new : AddressSpace) → Reaches old between → Follows between new → Reaches old new
 
--- an address below the end of the last block in which no live block lies has none ever after: no address is used twice
+-- an address below the end of the last block in which no live block lies is in none ever after
 abbrev pub EndedAddressesStayFree : Type 0
 EndedAddressesStayFree =
     (old new : AddressSpace) (addr : ℕ) → IsSound old → addr < old.edge → base_of old addr ≡ None → Reaches old new → base_of new addr ≡ None
+
+-- and one that is no live block's base isn't one ever after: no base is given twice, that of an empty block included
+abbrev pub EndedBasesStayFree : Type 0
+EndedBasesStayFree =
+    (old new : AddressSpace) (base : ℕ) → IsSound old → base < old.edge → block_with old base ≡ None → Reaches old new → block_with new base ≡ None

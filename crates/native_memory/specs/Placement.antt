@@ -1,5 +1,5 @@
 -- Placing blocks and ending them.
-use Rattle.std.specs.Prelude.{◌≡◌, ℕ, ◌+◌, ◌-◌, ◌*◌, ◌/◌, ◌^◌, max, nat_le, Bool, true, false, ◌&&◌, not, List, [], ◌∷◌, ◌++◌, length, replicate, Option, Some, None, option_map, if◌then◌else◌, ◌==◌}
+use Rattle.std.specs.Prelude.{◌≡◌, ℕ, ◌+◌, ◌-◌, ◌*◌, ◌/◌, ◌^◌, max, nat_le, Bool, true, false, ◌&&◌, not, List, [], ◌∷◌, ◌++◌, length, replicate, Option, Some, None, IsSome, option_map, if◌then◌else◌, ◌==◌}
 use Rattle.std.specs.List.{filter, find}
 use Rattle.bound_base.specs.declared.limits.Rights.{Rights}
 use Rattle.native_memory.specs.declared.kind.Kind.{Kind}
@@ -12,7 +12,7 @@ use Rattle.native_memory.specs.AddressSpace.{Block, AddressSpace, live_bytes}
 abbrev pub up_to_16 : ℕ → ℕ
 up_to_16 n = (n + 15) / 16 * 16
 
--- the end of a block; a block of no bytes ends one past its base, so that no two blocks have one base
+-- the end of a block, which counts as one byte long where it has none: so bases differ
 abbrev pub edge_of : Block → ℕ
 edge_of block = block.base + max block.size 1
 
@@ -40,15 +40,14 @@ new_contents size Errno = Some (replicate size 0)
 new_contents size Heap = Some (replicate size 0)
 new_contents size Temp = Some (replicate size 0)
 
--- A block of zeros at the next address. Then that address grows by the size rounded up to 16, and by 16. None where there
--- is no room.
+-- a block at the next address, which moves on by the block's size in whole sixteens and one sixteen more; None without room
 unfoldable pub placed : AddressSpace → ℕ → Rights → Kind → Option AddressSpace
 placed space size rights kind =
     with_block space (record { base = space.next; size = size; rights = rights; kind = kind; contents = new_contents size kind })
     (space.next + up_to_16 size + 16)
 
--- A segment at a given address, with bytes at its front and zeros behind them. Then the next address is its end rounded up
--- to 16, and 16 on. None where there is no room.
+-- a segment elsewhere, filled up with zeros; the next address is the multiple of 16 that isn't below its end, and 16 on; None
+-- without room
 unfoldable pub placed_at : AddressSpace → ℕ → List ℕ → ℕ → Rights → Option AddressSpace
 placed_at space base bytes size rights =
     with_block space (record { base = base; size = size; rights = rights; kind = Segment; contents = Some (bytes ++ replicate (size - length bytes) 0) })
@@ -82,12 +81,13 @@ base_of space addr = option_map (λ block. block.base) (find (holds_address addr
 abbrev pub within_top : ℕ → Option ℕ
 within_top next = if nat_le next (2 ^ 46) then Some next else None
 
--- A change that a call is to make: it was made, or there is none to make and nothing changed.
+-- By the answer of a call that makes a change where there is one to make: it made that one, or there is none and all is as
+-- it was.
 abbrev pub Does : Bool → Option AddressSpace → AddressSpace → AddressSpace → Type 0
 Does true change old new = change ≡ Some new
 Does false change old new = (change ≡ None) × (new ≡ old)
 
--- why a block isn't placed: there is no room for it, or no memory, which is free
+-- why a block isn't placed: there is no room for it; or there is room, and no memory, which is free
 abbrev pub Refuses : PlaceBad → Option AddressSpace → Type 0
 Refuses Room change = change ≡ None
-Refuses Memory change = Unit {0}
+Refuses Memory change = IsSome change

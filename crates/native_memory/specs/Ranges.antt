@@ -47,7 +47,7 @@ overwritten bytes at from = take at bytes ++ from ++ drop (at + length from) byt
 abbrev pub write_in : ℕ → List ℕ → Block → Block
 write_in addr from block = record block { contents = option_map (λ bytes. overwritten bytes (addr - block.base) from) block.contents }
 
--- a count of bytes stays at 2^64 - 1 once there
+-- a count of bytes, which ends at 2^64 - 1
 abbrev pub counted : ℕ → ℕ → ℕ
 counted written len = min (written + len) (2 ^ 64 - 1)
 

@@ -13,7 +13,7 @@ mod steps;
 
 pub use faults::{Fault, PlaceBad};
 pub use kind::Kind;
-pub use laws::{ended_addresses_stay_free, writes_change_their_range};
+pub use laws::{ended_addresses_stay_free, ended_bases_stay_free, writes_change_their_range};
 pub use memory::Memory;
 pub use steps::Steps;
 

@@ -51,7 +51,7 @@ impl Model for Memory {
 const LOWEST: u64 = 65_536;
 
 impl Memory {
-    /// Memory without blocks, of which at most `limit` bytes may live. It takes no memory.
+    /// Memory without blocks, of which at most `limit` bytes may live at once. It allocates nothing.
     pub fn new(alloc: Global, limit: u64) -> Memory
         ensures { result ≡ empty limit }
     {
@@ -72,22 +72,22 @@ impl Memory {
         self.live
     }
 
-    /// The address of the next block. It is 65,536 while no block was placed.
+    /// Where `place` will put the next block: 65,536 at first.
     pub fn next(&self) -> u64
         ensures { result ≡ self.now.next }
     {
         self.next
     }
 
-    /// The end of the block that was placed last; one past its base where it has no bytes. It is 65,536 while no block was
-    /// placed.
+    /// Where the newest block ends, which counts as one byte long where it has none: 65,536 at first. `place_at` may go on
+    /// from here.
     pub fn edge(&self) -> u64
         ensures { result ≡ self.now.edge }
     {
         self.edge
     }
 
-    /// How many bytes were written in all. It stays at 2^64 - 1 once there.
+    /// How many bytes all writes so far put, up to 2^64 - 1.
     pub fn written(&self) -> u64
         ensures { result ≡ self.now.written }
     {
@@ -119,10 +119,10 @@ impl Memory {
         true
     }
 
-    /// Places a block of zeros at the next address, and an in-place block without bytes. It answers its base.
+    /// Places a block at the next address, and gives its base. It holds zeros; an in-place block has no bytes yet.
     ///
-    /// It answers `Room` exactly where the live bytes would pass the limit, or the next address 2^46. Where it places no
-    /// block nothing changes.
+    /// There is no room, and the error is `Room`, where the new block would bring the live bytes above the limit or the next
+    /// address above 2^46, and nowhere else. `Memory` is for want of memory where there is room. With either nothing changes.
     pub fn place(&mut self, size: u64, rights: Rights, kind: Kind) -> Result<u64, PlaceBad>
         ensures base { IfOk result (λ base. base ≡ self.old.next) }
         ensures ok { OnOk result (placed self.old size rights kind ≡ Some self.new) }
@@ -141,11 +141,10 @@ impl Memory {
         Ok(base)
     }
 
-    /// Places a segment at an address at or behind the end of the block that was placed last, with `bytes` at its front and
-    /// zeros behind them. The next block will stand at its end rounded up to 16, and 16 on.
+    /// Places a segment at an address that isn't below `edge`: it begins with `bytes`, and zeros fill it up. The next address is
+    /// then at least 16 bytes behind its end, and a multiple of 16.
     ///
-    /// It answers `Room` exactly where the live bytes would pass the limit, or the next address 2^46. Where it places no
-    /// block nothing changes.
+    /// The errors are those of `place`.
     pub fn place_at(
         &mut self,
         base: u64,
@@ -170,7 +169,7 @@ impl Memory {
         Ok(())
     }
 
-    /// Ends the live block with this base. It is false exactly where no live block has it, and then nothing changes.
+    /// Ends the block that has this base, and tells whether there was one. Where there was none nothing changes.
     pub fn end(&mut self, base: u64) -> bool
         ensures { Does result (ended self.old base) self.old self.new }
     {
@@ -230,8 +229,8 @@ impl Memory {
 
     /// Reads the bytes of a range. A range of no bytes never faults.
     ///
-    /// It faults exactly where no one live block that may be read covers the range, or the block is an in-place one whose
-    /// bytes are elsewhere. Then `into` is as it was.
+    /// Else one live block has to cover the whole range, be readable, and have its bytes, which an in-place block may lack.
+    /// Where there is no such block it faults, and `into` is as it was.
     pub fn read(&self, addr: u64, into: &mut [u8]) -> Result<(), Fault>
         ensures ok { OnOk result (bytes_at may_read self.now addr (length into.old) ≡ Some into.new) }
         ensures err { OnErr result (bytes_at may_read self.now addr (length into.old) ≡ None) }
@@ -252,8 +251,8 @@ impl Memory {
         }
     }
 
-    /// The word of four bytes at an address, lowest byte first. It faults exactly where no one live block that may be
-    /// executed covers them.
+    /// The word at an address, lowest byte first. Its four bytes have to lie in one live block that may be executed and has
+    /// its bytes; else it faults.
     pub fn fetch(&self, pc: u64) -> Result<u32, Fault>
         ensures ok { IfOk result (λ word. word_at self.now pc ≡ Some word) }
         ensures err { OnErr result (word_at self.now pc ≡ None) }
@@ -271,8 +270,8 @@ impl Memory {
 
     /// Writes bytes from an address on. A range of no bytes never faults.
     ///
-    /// It faults exactly where no one live block that may be written covers the range, or the block is an in-place one
-    /// whose bytes are elsewhere. Then nothing changes.
+    /// Else one live block has to cover the whole range, be writable, and have its bytes, which an in-place block may lack.
+    /// Where there is no such block it faults, and nothing changes.
     pub fn write(&mut self, addr: u64, from: &[u8]) -> Result<(), Fault>
         ensures ok { OnOk result (written_at self.old addr from.now ≡ Some self.new) }
         ensures err { OnErr result (written_at self.old addr from.now ≡ None) }
@@ -305,11 +304,13 @@ impl Memory {
         self.bytes_at(addr, len, access).is_some()
     }
 
-    /// The base of the live block in which the address lies. A step is an entry of the list of blocks that is read.
+    /// The base of the live block in which the address lies, None where it lies in none. A step is an entry of the list of
+    /// blocks that is read: among n blocks there are p with 2^p at most 2n + 1.
     pub fn find<L: Ledger>(&self, addr: u64, steps: &mut Steps<L>) -> Option<u64>
         ensures base { result ≡ base_of self.now addr }
         ensures cost { 2 ^ (steps.new - steps.old) ≤ 2 * length self.now.blocks + 1 }
         ensures count { steps.old ≤ steps.new }
+        ensures read { 0 < length self.now.blocks → steps.old < steps.new }
     {
         let it = last_not_above(&self.blocks, addr, steps)?;
         if addr - it.base < it.size {
@@ -319,7 +320,7 @@ impl Memory {
         }
     }
 
-    /// The size, rights and kind of the live block with this base.
+    /// The size, rights and kind of the live block with this base, None where there is none.
     pub fn block_at(&self, base: u64) -> Option<(u64, Rights, Kind)>
         ensures { result ≡ option_map described (block_with self.now base) }
     {

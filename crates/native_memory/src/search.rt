@@ -27,6 +27,7 @@ pub fn last_not_above<L: Ledger>(
     ensures last { FindsLast blocks.now.items addr result }
     ensures cost { 2 ^ (steps.new - steps.old) ≤ 2 * length blocks.now.items + 1 }
     ensures count { steps.old ≤ steps.new }
+    ensures read { 0 < length blocks.now.items → steps.old < steps.new }
 {
     let mut low = 0;
     let mut high = blocks.len();

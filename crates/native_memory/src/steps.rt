@@ -23,7 +23,7 @@ impl<L: Ledger> Model for Steps<L> {
 }
 
 impl<L: Ledger> Steps<L> {
-    /// No steps yet. A ledger is blank where `Blank::new(1)` has just made it.
+    /// No steps yet, in a ledger of one part: that of `Blank::new(1)`, which the caller names by its type parameter.
     pub fn new(blank: Blank) -> Steps<L>
         requires name { blank.name ≡ L.name }
         requires parts { (blank.parts ≡ L.parts) × (L.parts ≡ 1) }

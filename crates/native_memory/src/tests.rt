@@ -3,7 +3,8 @@
 ghost use Rattle.std.specs.Prelude.{◌≡◌};
 
 use crate::{
-    Fault, Kind, Memory, PlaceBad, Steps, ended_addresses_stay_free, writes_change_their_range,
+    Fault, Kind, Memory, PlaceBad, Steps, ended_addresses_stay_free, ended_bases_stay_free,
+    writes_change_their_range,
 };
 use bound_base::{Bytes, Rights};
 use std::alloc::{AllocError, Global};
@@ -198,6 +199,7 @@ fn an_in_place_block_is_lent_its_bytes(rt: HostRuntime) -> Result<(), Fail> {
     assert_eq!(rt; (memory.all_here(), memory.live()), (false, 3));
     writes_change_their_range();
     ended_addresses_stay_free();
+    ended_bases_stay_free();
     Ok(())
 }
 

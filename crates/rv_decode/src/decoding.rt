@@ -20,7 +20,7 @@ use crate::opcodes::{
 /// Instruction Set Listings).
 ///
 /// A FENCE keeps its fields, whatever they are. Not read are FENCE.I, the instructions on control and status registers, and
-/// each word of another extension.
+/// words that only other extensions have. A hint of another extension is read as the instruction that its word is.
 pub fn decode(word: u32) -> Option<Instr>
     ensures value { result ≡ decoded word }
     ensures encoded { (i : Instr) → (result ≡ Some i) ↔ (encoding i ≡ Some word) }

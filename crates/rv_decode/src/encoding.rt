@@ -12,8 +12,8 @@ use crate::opcodes::{
 };
 
 /// The word of an instruction; None where a field is out of its range: a register above 31, an immediate that its bits
-/// don't hold, an odd distance, a shift by 64 bits or more, or by 32 or more at the shifts of 32 bits (RISC-V unprivileged
-/// ISA, RV32/64G Instruction Set Listings).
+/// don't hold, an odd distance, a shift by 64 bits or more, or by 32 or more at the shifts of 32 bits, a field of FENCE above
+/// 15 (RISC-V unprivileged ISA, RV32/64G Instruction Set Listings).
 pub fn encode(i: &Instr) -> Option<u32>
     ensures { result ≡ encoding i.now }
 {

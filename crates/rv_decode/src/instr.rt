@@ -248,7 +248,7 @@ pub enum Instr {
         rs1: u8,
         rs2: u8,
     },
-    /// Orders memory accesses. The fields but the opcode are kept and have no effect here.
+    /// Orders memory accesses. What stands in its other fields than opcode and funct3 is kept, and has no effect here.
     Fence {
         fm: u8,
         pred: u8,

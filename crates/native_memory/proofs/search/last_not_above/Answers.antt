@@ -15,6 +15,7 @@ loop-low-preserved-then-it-addr g c =
       found = (c.probe-it.ensures.entry, c.if-it-addr.true, omega arith);
       above = at.above;
       count = omega arith;
+      read = λ less. omega arith;
       halves = halved _ _ _ _ _ _ at.count c.probe-it.ensures.step at.halves (omega arith);
       cost = within_twice _ _ _ _ _ at.count c.probe-it.ensures.step at.halves (omega arith);
     }
@@ -29,6 +30,7 @@ loop-low-preserved g c =
       found = at.found;
       above = λ k d later within. above_all _ _ _ _ c.requires probed.entry probed.place c.if-it-addr.false k d later within;
       count = omega arith;
+      read = λ less. omega arith;
       halves = halved _ _ _ _ _ _ at.count probed.step at.halves (omega arith);
       cost = within_twice _ _ _ _ _ at.count probed.step at.halves (omega arith);
     }

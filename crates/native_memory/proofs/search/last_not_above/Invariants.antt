@@ -11,6 +11,7 @@ invariant-loop-low g l = record {
   above : (k : ℕ) (d : Block) → l.high ≤ k → k < length l.blocks.items → l.addr < (get_or l.blocks.items k d).base;
   count : l.fn.steps ≤ l.steps;
   halves : 2 ^ (l.steps - l.fn.steps) * (l.high - l.low) ≤ length l.blocks.items;
+  read : l.high - l.low < length l.blocks.items → l.fn.steps < l.steps;
   cost : 2 ^ (l.steps - l.fn.steps) ≤ 2 * length l.blocks.items + 1;
 }
 
