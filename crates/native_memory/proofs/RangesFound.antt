@@ -1,10 +1,10 @@
 -- The bytes of a range, by the block that covers it.
-use Rattle.std.proofs.Common.{◌≡◌, ℕ, ◌≢◌, nat_eq, Bool, false, [], get_or, Some, None, arith, refl}
+use Rattle.std.proofs.Common.{◌≡◌, ℕ, ◌-◌, ◌≢◌, drop, nat_eq, Bool, false, [], get_or, Some, None, arith, refl}
 use Rattle.std.specs.Prelude.{option_map}
 use Rattle.std.proofs.lemmas.Bool.Decides.{nat_tests}
 use Rattle.bound_base.specs.declared.limits.Rights.{Rights}
 use Rattle.native_memory.specs.AddressSpace.{Block, AddressSpace}
-use Rattle.native_memory.specs.Ranges.{covers, open_bytes, part, bytes_at}
+use Rattle.native_memory.specs.Ranges.{covers, may_read, open_bytes, part, bytes_at, rest_at}
 use Rattle.native_memory.specs.Search.{FailsAll, PicksAt}
 use Rattle.native_memory.proofs.Picks.{find_fails, find_picked}
 
@@ -23,3 +23,12 @@ pub bytes_found : (right : Rights → Bool) (space : AddressSpace) (addr len at 
     → bytes_at right space addr len ≡ option_map (part addr len (get_or space.blocks at d)) (open_bytes right (get_or space.blocks at d))
 unfolding bytes_at
 bytes_found right space addr len at d some picks = rw (ne_false len some, find_picked (covers addr len) space.blocks at d picks) refl
+
+pub rest_missing : (space : AddressSpace) (addr : ℕ) → FailsAll (covers addr 1) space.blocks → rest_at space addr ≡ None
+unfolding rest_at
+rest_missing space addr fails = rw (find_fails (covers addr 1) space.blocks fails) refl
+
+pub rest_found : (space : AddressSpace) (addr at : ℕ) (d : Block) → PicksAt (covers addr 1) space.blocks at
+    → rest_at space addr ≡ option_map (drop (addr - (get_or space.blocks at d).base)) (open_bytes may_read (get_or space.blocks at d))
+unfolding rest_at
+rest_found space addr at d picks = rw (find_picked (covers addr 1) space.blocks at d picks) refl

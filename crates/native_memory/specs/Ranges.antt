@@ -35,6 +35,10 @@ bytes_at right space addr len =
     if len == 0 then Some []
     else option_and_then (λ block. option_map (part addr len block) (open_bytes right block)) (find (covers addr len) space.blocks)
 
+-- the bytes from an address to the end of the live block in which it lies, where that may be read
+unfoldable pub rest_at : AddressSpace → ℕ → Option (List ℕ)
+rest_at space addr = option_and_then (λ block. option_map (drop (addr - block.base)) (open_bytes may_read block)) (find (covers addr 1) space.blocks)
+
 -- the word of four bytes that stands at an address and may be executed
 abbrev pub word_at : AddressSpace → ℕ → Option ℕ
 word_at space pc = option_map (little_number 4) (bytes_at may_execute space pc 4)

@@ -1,9 +1,9 @@
 //! A live block: a small entry, and its contents beside it.
 
-ghost use Rattle.std.specs.Prelude.{◌≡◌, ◌+◌, ◌≤◌, true, length, is_some, option_map, IfOk, IfSome};
+ghost use Rattle.std.specs.Prelude.{◌≡◌, ◌+◌, ◌-◌, ◌≤◌, true, drop, length, is_some, option_map, IfOk, IfSome};
 ghost use Rattle.std.specs.Option.{option_copied};
 ghost use Rattle.native_memory.specs.AddressSpace.{is_heap, listed};
-ghost use Rattle.native_memory.specs.Ranges.{covers, right_of, open_bytes, part, overwritten, write_in};
+ghost use Rattle.native_memory.specs.Ranges.{covers, may_read, right_of, open_bytes, part, overwritten, write_in};
 ghost use Rattle.native_memory.specs.InPlace.{is_in_place, is_here};
 ghost use Rattle.native_memory.specs.Sound.{IsWhole};
 
@@ -125,6 +125,21 @@ impl LiveBlock {
                 let start = (addr - self.base) as usize;
                 Some(&bytes[start..start + len as usize])
             }
+            None => None,
+        }
+    }
+
+    /// The bytes from an address of the block to its end. None where its contents are elsewhere, or it may not be read.
+    pub fn rest(&self, addr: u64) -> Option<&[u8]>
+        requires covers { covers addr 1 self.now ≡ true }
+        requires whole { IsWhole self.now }
+        ensures { option_copied result ≡ option_map (drop (addr - self.now.base)) (open_bytes may_read self.now) }
+    {
+        if !self.body.rights.r {
+            return None;
+        }
+        match &self.body.contents {
+            Some(bytes) => Some(&bytes[(addr - self.base) as usize..]),
             None => None,
         }
     }

@@ -4,7 +4,7 @@ ghost use Rattle.std.specs.Prelude.{◌≡◌, ◌+◌, ◌-◌, ◌*◌, ◌^�
 ghost use Rattle.std.specs.Option.{option_copied};
 ghost use Rattle.bound_base.specs.declared.limits.Rights.{Rights};
 ghost use Rattle.native_memory.specs.AddressSpace.{empty, live_bytes, heap_blocks, listed};
-ghost use Rattle.native_memory.specs.Ranges.{covers, may_read, right_of, right_to, bytes_at, word_at, written_at};
+ghost use Rattle.native_memory.specs.Ranges.{covers, may_read, right_of, right_to, bytes_at, rest_at, word_at, written_at};
 ghost use Rattle.native_memory.specs.Placement.{placed, placed_at, ended, base_of, block_with, described, stands_at, has_room, with_behind, Does, Refuses};
 ghost use Rattle.native_memory.specs.InPlace.{adopted, lent_at, taken_back, is_in_place_at, waits_at, are_all_here};
 ghost use Rattle.native_memory.specs.Search.{Picks, IsWritable};
@@ -249,6 +249,23 @@ impl Memory {
                 write: false,
             }),
         }
+    }
+
+    /// The bytes of a range, lent. None exactly where a read of it would fault.
+    pub fn contents(&self, addr: u64, len: u64) -> Option<&[u8]>
+        ensures value { option_copied result ≡ bytes_at may_read self.now addr len }
+        ensures len { IfSome result (λ bytes. length bytes.now ≡ len) }
+    {
+        self.bytes_at(addr, len, Access::Read)
+    }
+
+    /// The bytes from an address to the end of the live block in which it lies, lent. None exactly where a read of one byte
+    /// there would fault.
+    pub fn rest(&self, addr: u64) -> Option<&[u8]>
+        ensures { option_copied result ≡ rest_at self.now addr }
+    {
+        let at = self.covering(addr, 1)?;
+        self.blocks[at].rest(addr)
     }
 
     /// The word at an address, lowest byte first. Its four bytes have to lie in one live block that may be executed and has
