@@ -1,4 +1,4 @@
-use Rattle.std.proofs.Common.{rules, ◌<◌, length, refl, sym}
+use Rattle.std.proofs.Common.{rules, ◌<◌, length, sym}
 use Rattle.native_memory.proofs.Picks.{picked_within, picked_true}
 use Rattle.native_memory.proofs.RangesFound.{rest_missing, rest_found}
 use Rattle.native_memory.proofs.memory.Memory.rest.Goals as goal
