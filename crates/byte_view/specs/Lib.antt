@@ -11,3 +11,10 @@ pub mod Cells
 pub mod Assembly
 pub mod Examples
 pub mod Laws
+pub mod ElfParts
+pub mod ElfLoads
+pub mod ElfDynamic
+pub mod ElfSymbols
+pub mod ElfRelocations
+pub mod Library
+pub mod ElfLaws
