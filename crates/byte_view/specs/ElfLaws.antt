@@ -1,5 +1,5 @@
 -- What holds of each library that is read, in the words of the format.
-use Rattle.std.specs.Prelude.{◌≡◌, ◌<◌, ◌≤◌, ℕ, ◌+◌, ◌^◌, List, length, take, slice_get, Contains, Option, Some, Ok, IsErr}
+use Rattle.std.specs.Prelude.{◌≡◌, ◌<◌, ◌≤◌, ℕ, ◌+◌, ◌^◌, List, length, take, slice_get, Contains, Some, Ok, IsErr}
 use Rattle.byte_view.specs.ElfLoads.{Load, end_of}
 use Rattle.byte_view.specs.Library.{Library, library}
 

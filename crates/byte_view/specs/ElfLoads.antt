@@ -1,6 +1,5 @@
 -- The headers of a library up to its loads (System V gABI, 'ELF Header' and 'Program Header'; RISC-V psABI, 'File Header').
-use Rattle.std.specs.Prelude.{ℕ, zero, suc, ◌+◌, ◌-◌, ◌*◌, ◌^◌, Bool, not, ◌||◌, ◌&&◌, ◌==◌, nat_lt, nat_le, List, [], ◌∷◌, ◌++◌, length, find, slice_range, Option, Some, None, option_map, Result, Ok, Err, bit_and, if◌then◌else◌}
-use Rattle.std.specs.Option.{ok_or}
+use Rattle.std.specs.Prelude.{ℕ, zero, suc, ◌+◌, ◌-◌, ◌*◌, ◌^◌, Bool, not, ◌||◌, ◌&&◌, ◌==◌, nat_lt, nat_le, List, [], ◌∷◌, ◌++◌, length, find, slice_range, Option, option_map, Result, Ok, bit_and, if◌then◌else◌}
 use Rattle.byte_view.specs.Numbers.{le}
 use Rattle.byte_view.specs.Reading.{Broken, ◌>>=◌, must, field, field_where, each}
 use Rattle.byte_view.specs.ElfParts as parts

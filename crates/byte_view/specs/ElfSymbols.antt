@@ -1,6 +1,6 @@
 -- The symbols of a library (System V gABI, 'Symbol Table' and 'Hash Table'; for DT_GNU_HASH, the GNU linker's table).
-use Rattle.std.specs.Prelude.{ℕ, ◌+◌, ◌-◌, ◌*◌, ◌/◌, ◌%◌, max, Bool, ◌==◌, nat_le, List, [], length, map, position, Option, Some, None, option_map, option_and_then, Result, Ok, Err, if◌then◌else◌}
-use Rattle.std.specs.List.{fold, range_with_len, Any, list_any}
+use Rattle.std.specs.Prelude.{ℕ, ◌+◌, ◌-◌, ◌*◌, ◌/◌, ◌%◌, max, ◌==◌, nat_le, List, [], length, map, position, Option, Some, None, option_map, option_and_then, Result, Ok, if◌then◌else◌}
+use Rattle.std.specs.List.{fold, range_with_len, list_any}
 use Rattle.std.specs.Option.{ok_or}
 use Rattle.byte_view.specs.Numbers.{le}
 use Rattle.byte_view.specs.Reading.{Broken, ◌>>=◌, listed}
