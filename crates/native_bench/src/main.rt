@@ -1,27 +1,40 @@
-//! Reads instruction words in hexadecimal, one a line, and prints each with its instruction and with that one's word, or
-//! `none` for what there is not.
+//! What checks and timings run of the native crates. Without words it reads instruction words; else the first word says
+//! what it does. It prints results alone, the same at each call: `bench/native` measures how long it takes.
 #![tactic(auto)]
 
-use rv_decode::{decode, encode};
-use std::io::{self, BufRead, BufReader};
+mod blocks;
+mod instruction_words;
+mod reads;
+mod steps;
 
-fn main(rt: HostRuntime) -> io::Result<()> {
-    for line in BufReader::new(rt.alloc(), rt.reader())?.lines(rt.alloc()) {
-        let line = line?;
-        match u32::from_str_radix(line.as_str(), 16) {
-            Ok(word) => print_word(&rt, word)?,
-            Err(_) => println!(rt; "no word: {line}")?,
-        }
+use anyhow::{Context, bail};
+use blocks::Order;
+use std::env;
+
+fn main(rt: HostRuntime) -> anyhow::Result<()> {
+    let mut words = env::args(&rt)?.skip(1);
+    let Some(mode) = words.next() else {
+        return Ok(instruction_words::print_all(&rt)?);
+    };
+    match mode.as_str() {
+        "steps" => steps::print(&rt),
+        "reads" => reads::print(&rt, number(words.next())?, number(words.next())?),
+        "blocks" => blocks::print(&rt, order(words.next())?),
+        _ => bail!("no such mode"),
     }
-    Ok(())
 }
 
-fn print_word(rt: &impl Print, word: u32) -> io::Result<()> {
-    let Some(instr) = decode(word) else {
-        return println!(rt; "{word:08x} none");
-    };
-    match encode(&instr) {
-        Some(again) => println!(rt; "{word:08x} {instr:?} {again:08x}"),
-        None => println!(rt; "{word:08x} {instr:?} none"),
+fn number(word: Option<String>) -> anyhow::Result<u64> {
+    let word = word.context("a number is missing")?;
+    Ok(word.parse::<u64>()?)
+}
+
+fn order(word: Option<String>) -> anyhow::Result<Order> {
+    let word = word.context("an order is missing")?;
+    match word.as_str() {
+        "age" => Ok(Order::OldestFirst),
+        "reverse" => Ok(Order::NewestFirst),
+        "random" => Ok(Order::Shuffled),
+        _ => bail!("no such order"),
     }
 }

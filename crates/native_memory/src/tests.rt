@@ -176,6 +176,22 @@ fn ranges_lie_in_one_block_with_the_right(rt: HostRuntime) -> Result<(), Fail> {
 }
 
 #[test]
+fn bytes_are_lent(rt: HostRuntime) -> Result<(), Fail> {
+    let mut memory = Memory::new(rt.alloc(), 1_000);
+    memory.place_at(0x10000, &[1, 2, 3], 5, CODE)?;
+    for (addr, len, want) in [
+        (0x10001, 3, Some([2u8, 3, 0].as_slice())),
+        (0x10001, 5, None),
+    ] {
+        assert_eq!(rt; memory.contents(addr, len), want, "{addr} {len}");
+    }
+    for (addr, want) in [(0x10003, Some([0u8, 0].as_slice())), (0x10005, None)] {
+        assert_eq!(rt; memory.rest(addr), want, "{addr}");
+    }
+    Ok(())
+}
+
+#[test]
 fn an_in_place_block_is_lent_its_bytes(rt: HostRuntime) -> Result<(), Fail> {
     let mut memory = Memory::new(rt.alloc(), 100);
     let base = memory.place(3, DATA, Kind::InPlace)?;
