@@ -1,12 +1,14 @@
 -- The zeros at which names end.
-use Rattle.std.specs.Prelude.{◌≡◌, ℕ, ◌+◌, ◌*◌, ◌/◌, ◌≤◌, ◌==◌, List, length, drop, slice_index}
-use Rattle.std.specs.List.{position_or_len}
+use Rattle.std.specs.Prelude.{◌≡◌, ℕ, ◌+◌, ◌*◌, ◌/◌, ◌<◌, ◌≤◌, List, length, slice_index}
 
--- the place of the first zero from a place on, or the length where there is none
-unfoldable pub first_zero : List ℕ → ℕ → ℕ
-first_zero bytes at = at + position_or_len (λ byte. byte == 0) (drop at bytes)
+-- the first zero of some bytes from a place on stands at another, which is their end where there is none
+pub record IsFirstZero (bytes : List ℕ) (at zero : ℕ) : Type 0 where
+  pub from : at ≤ zero
+  pub within : zero ≤ length bytes
+  pub others : (k : ℕ) → at ≤ k → k < zero → 0 < slice_index bytes k
+  pub is_zero : zero < length bytes → slice_index bytes zero ≡ 0
 
--- the first zero from the start of each block of 64 bytes on
+-- the first zeros from the start of each block of 64 bytes on
 pub record AreOf (bytes from_block : List ℕ) : Type 0 where
   pub count : length from_block ≡ length bytes / 64 + 1
-  pub each : (block : ℕ) → 64 * block ≤ length bytes → slice_index from_block block ≡ first_zero bytes (64 * block)
+  pub each : (block : ℕ) → 64 * block ≤ length bytes → IsFirstZero bytes (64 * block) (slice_index from_block block)

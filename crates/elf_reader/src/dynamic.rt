@@ -1,15 +1,15 @@
 //! The dynamic section (System V gABI, 'Dynamic Section').
 
-ghost use Rattle.std.specs.Prelude.{◌≡◌, ◌+◌, ◌*◌, ◌<◌, ◌≤◌, length, map, option_map, IfOk};
+ghost use Rattle.std.specs.Prelude.{◌≡◌, ◌+◌, ◌*◌, ◌<◌, ◌≤◌, length, map, option_map, IfOk, IfSome};
 ghost use Rattle.byte_view.specs.Numbers.{le};
 ghost use Rattle.byte_view.specs.ElfDynamic as definition;
 ghost use Rattle.elf_reader.specs.Refusals.{Reads};
 ghost use Rattle.elf_reader.specs.Dynamic.{entry_of};
 
+use crate::entry::{Entry, Table};
 use crate::fields::{broken, must, number64};
 use crate::headers::{HEADER_SIZE, Headers, header_type};
 use crate::part::{ElfBad, ElfPart};
-use bound_base::Items;
 use std::alloc::Global;
 
 /// `p_type` of the dynamic section.
@@ -54,18 +54,6 @@ pub const DT_INIT_ARRAYSZ: u64 = 27;
 
 pub const DT_GNU_HASH: u64 = 0x6FFF_FEF5;
 
-/// An entry of the dynamic section.
-#[derive(Clone, Copy, Debug)]
-pub struct Entry {
-    /// The file offset of the entry.
-    pub at: usize,
-    pub tag: u64,
-    pub value: u64,
-}
-
-/// The entries of the dynamic section before `DT_NULL`, in order.
-pub type Table = Items<Entry>;
-
 /// The file offset of the one program header of the dynamic section.
 #[tactic(auto, unfolding(byte_view::specs::ElfDynamic::dynamic_header))]
 pub fn dynamic_header(bytes: &[u8], headers: Headers) -> Result<usize, ElfBad>
@@ -82,6 +70,7 @@ fn dynamic_among(bytes: &[u8], headers: Headers) -> Result<Option<usize>, ElfBad
     requires { 0 < headers.count → headers.start + 56 * headers.count ≤ length bytes.now }
     ensures header { Reads (λ x. x) result
         (definition.dynamic_among bytes.now headers.start headers.count) }
+    ensures within { IfOk result (λ found. IfSome found (λ at. at + 56 ≤ length bytes.now)) }
 {
     let mut found = None;
     for k in 0..headers.count {
@@ -101,7 +90,8 @@ pub fn dynamic_table(alloc: Global, bytes: &[u8], header: usize) -> Result<Table
 {
     let start = number64(bytes, header + 8) as usize;
     let mut table = Table::new(alloc);
-    for k in 0..entry_count(bytes, header) {
+    let count = entry_count(bytes, header);
+    for k in 0..count {
         let entry = entry_at(bytes, start + ENTRY_SIZE * k);
         if entry.tag == DT_NULL {
             return Ok(table);
@@ -117,6 +107,7 @@ pub fn dynamic_table(alloc: Global, bytes: &[u8], header: usize) -> Result<Table
 fn entry_count(bytes: &[u8], header: usize) -> usize
     requires { header + 56 ≤ length bytes.now }
     ensures count { result ≡ definition.entry_count bytes.now header }
+    ensures within { 0 < result → le bytes.now (header + 8) 8 + 16 * result ≤ length bytes.now }
 {
     let start = number64(bytes, header + 8) as usize;
     let size = number64(bytes, header + 32) as usize;

@@ -3,6 +3,7 @@
 
 mod dynamic;
 mod elf;
+mod entry;
 mod fields;
 mod hashes;
 mod headers;

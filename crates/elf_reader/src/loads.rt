@@ -1,14 +1,15 @@
 //! The loads of a library, and the bytes at its addresses (System V gABI, 'Program Header').
 
-ghost use Rattle.std.specs.Prelude.{◌≡◌, ◌+◌, ◌*◌, ◌<◌, ◌≤◌, length, map, find, option_map, slice_range, IfOk, IfSome};
+ghost use Rattle.std.specs.Prelude.{◌≡◌, ◌+◌, ◌*◌, ◌<◌, ◌≤◌, ◌^◌, length, map, find, option_map, slice_range, nat_le, IfOk, IfSome};
 ghost use Rattle.byte_view.specs.ElfLoads as definition;
 ghost use Rattle.byte_view.specs.ElfSymbols as symbols;
+ghost use Rattle.elf_reader.specs.Dynamic.{entry_of};
 ghost use Rattle.elf_reader.specs.Elf.{load_of};
-ghost use Rattle.elf_reader.specs.Loads.{AreSound};
+ghost use Rattle.elf_reader.specs.Loads.{AreSound, file_end};
 ghost use Rattle.elf_reader.specs.Refusals.{Reads, part_place};
 
-use crate::dynamic::Entry;
 use crate::elf::{Load, Loads};
+use crate::entry::Entry;
 use crate::fields::{broken, must, number32, number64};
 use crate::headers::{HEADER_SIZE, Headers, header_type};
 use crate::part::{ElfBad, ElfPart};
@@ -39,21 +40,22 @@ pub struct Range {
 }
 
 impl Load {
-    /// The address behind the last byte that the file has.
-    fn file_end(&self) -> u64
-        requires { self.now.vaddr + self.now.file_size < 2 ^ 64 }
-        ensures { result ≡ self.now.vaddr + self.now.file_size }
+    /// Whether the bytes that the file has end at an address, or before it.
+    fn ends_by(&self, addr: u64) -> bool
+        ensures { result ≡ nat_le (file_end self.now) addr }
     {
-        self.vaddr + self.file_size
+        self.vaddr <= addr && self.file_size <= addr - self.vaddr
     }
 
     /// Whether the file has each of the `len` bytes from an address on, in this load.
     #[tactic(auto, unfolding(byte_view::specs::ElfLoads::holds_range))]
     fn holds(&self, addr: u64, len: u64) -> bool
-        requires { self.now.vaddr + self.now.file_size < 2 ^ 64 }
         ensures { result ≡ definition.holds_range addr len (load_of self.now) }
     {
-        self.vaddr <= addr && addr <= self.file_end() && len <= self.file_end() - addr
+        if addr < self.vaddr || addr - self.vaddr > self.file_size {
+            return false;
+        }
+        len <= self.file_size - (addr - self.vaddr)
     }
 }
 
@@ -123,7 +125,6 @@ fn rights_at(bytes: &[u8], at: usize) -> Rights
 }
 
 /// Asks that no program header is of thread-local storage.
-#[tactic(auto, unfolding(byte_view::specs::ElfLoads::without_tls))]
 pub fn without_tls(bytes: &[u8], headers: Headers) -> Result<(), ElfBad>
     requires { 0 < headers.count → headers.start + 56 * headers.count ≤ length bytes.now }
     ensures { Reads (λ _. 0) result (definition.without_tls bytes.now headers.start headers.count) }
@@ -146,7 +147,7 @@ fn load_that_holds(loads: &[Load], size: usize, addr: u64, len: u64) -> Option<L
     ensures from { IfSome result (λ load. load.vaddr ≤ addr) }
     ensures to { IfSome result (λ load. addr + len ≤ load.vaddr + load.file_size) }
 {
-    let before = loads.partition_point(|load| load.file_end() <= addr);
+    let before = loads.partition_point(|load| load.ends_by(addr));
     let load = *loads.get(before)?;
     if load.holds(addr, len) {
         Some(load)
@@ -203,9 +204,8 @@ pub fn table_place(
     if len == 0 {
         return Ok(0);
     }
-    let place = match entry.value.checked_add(offset) {
-        Some(addr) => file_place(loads, size, addr, len),
-        None => None,
+    let Some(addr) = entry.value.checked_add(offset) else {
+        return Err(broken(part, entry.at + 8));
     };
-    place.ok_or(broken(part, entry.at + 8))
+    file_place(loads, size, addr, len).ok_or(broken(part, entry.at + 8))
 }

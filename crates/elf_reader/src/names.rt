@@ -1,11 +1,11 @@
 //! The names of symbols. A name ends at the first zero behind its place; one pass over the file finds where.
 
-ghost use Rattle.std.specs.Prelude.{◌≡◌, ◌+◌, ◌<◌, ◌≤◌, length, map, IfOk};
+ghost use Rattle.std.specs.Prelude.{◌≡◌, ◌+◌, ◌<◌, ◌≤◌, ◌==◌, length, map, position, IfOk};
 ghost use Rattle.std.specs.Option.{option_copied};
 ghost use Rattle.byte_view.specs.ElfSymbols as definition;
 ghost use Rattle.elf_reader.specs.Elf.{load_of};
 ghost use Rattle.elf_reader.specs.Loads.{AreSound};
-ghost use Rattle.elf_reader.specs.Names.{first_zero, AreOf};
+ghost use Rattle.elf_reader.specs.Names.{IsFirstZero, AreOf};
 
 use crate::elf::Load;
 use crate::loads::range_from;
@@ -43,16 +43,23 @@ impl Zeros {
     fn first_from(&self, bytes: &[u8], at: usize) -> usize
         requires zeros { AreOf bytes.now self.now.from_block.items }
         requires within { at ≤ length bytes.now }
-        ensures { result ≡ first_zero bytes.now at }
+        ensures { IsFirstZero bytes.now at result }
     {
         let block = at / BLOCK + 1;
         let end = bytes.len().min(block * BLOCK);
-        match bytes[at..end].iter().position(|byte| *byte == 0) {
+        match zero_in(&bytes[at..end]) {
             Some(n) => at + n,
             None if end < bytes.len() => self.from_block[block],
             None => bytes.len(),
         }
     }
+}
+
+/// The place of the first zero.
+fn zero_in(bytes: &[u8]) -> Option<usize>
+    ensures { result ≡ position (λ byte. byte == 0) bytes.now }
+{
+    bytes.iter().position(|byte| *byte == 0)
 }
 
 /// The text at an address, `offset` past another, with its zero in the same load. The zeros are those of the file.

@@ -8,8 +8,9 @@ ghost use Rattle.elf_reader.specs.Dynamic.{entry_of};
 ghost use Rattle.elf_reader.specs.Loads.{AreSound};
 ghost use Rattle.elf_reader.specs.Refusals.{Reads};
 
-use crate::dynamic::{DT_JMPREL, DT_PLTRELSZ, DT_RELA, DT_RELASZ, Entry, first_of, value_of};
+use crate::dynamic::{DT_JMPREL, DT_PLTRELSZ, DT_RELA, DT_RELASZ, first_of, value_of};
 use crate::elf::{Load, Relocation, Relocations};
+use crate::entry::Entry;
 use crate::fields::number64;
 use crate::loads::table_place;
 use crate::part::{ElfBad, ElfPart};

@@ -11,8 +11,9 @@ ghost use Rattle.elf_reader.specs.Names.{AreOf};
 ghost use Rattle.elf_reader.specs.Refusals.{Reads};
 ghost use Rattle.elf_reader.specs.declared.part.ElfBad.TheVariants.{Memory};
 
-use crate::dynamic::{DT_STRTAB, DT_SYMTAB, Entry, first_of};
+use crate::dynamic::{DT_STRTAB, DT_SYMTAB, first_of};
 use crate::elf::{Load, Symbol, Symbols};
+use crate::entry::Entry;
 use crate::fields::{broken, number8, number16, number32, number64};
 use crate::hashes::symbol_count;
 use crate::loads::table_place;
@@ -45,7 +46,8 @@ pub fn read_symbols(
     header: usize,
     table: &[Entry],
 ) -> Result<Symbols, ElfBad>
-    requires { AreSound (length bytes.now) loads.now }
+    requires sound { AreSound (length bytes.now) loads.now }
+    requires header { header + 56 ≤ length bytes.now }
     ensures { Reads (map symbol_of) result
         (definition.symbols bytes.now (map load_of loads.now) header (map entry_of table.now)) }
 {
@@ -67,6 +69,7 @@ fn symbols_of(
     count: u64,
 ) -> Result<Symbols, ElfBad>
     requires sound { AreSound (length bytes.now) loads.now }
+    requires header { header + 56 ≤ length bytes.now }
     requires some { 0 < count }
     ensures { Reads (map symbol_of) result
         (definition.symbols_of bytes.now (map load_of loads.now) header (map entry_of table.now) count) }
