@@ -1,6 +1,7 @@
 //! The loads of a library, and the bytes at its addresses (System V gABI, 'Program Header').
 
-ghost use Rattle.std.specs.Prelude.{◌≡◌, ◌+◌, ◌*◌, ◌<◌, ◌≤◌, ◌^◌, length, map, find, option_map, slice_range, nat_le, IfOk, IfSome};
+ghost use Rattle.std.specs.Prelude.{◌≡◌, ◌+◌, ◌*◌, ◌<◌, ◌≤◌, ◌^◌, length, map, find, option_map, slice_range, nat_le, IfOk, IfSome, true, false};
+ghost use Rattle.std.specs.List.Sorted.{IsNonDecreasingBy, IsPartitionPoint};
 ghost use Rattle.byte_view.specs.ElfLoads as definition;
 ghost use Rattle.byte_view.specs.ElfSymbols as symbols;
 ghost use Rattle.elf_reader.specs.Dynamic.{entry_of};
@@ -147,13 +148,22 @@ fn load_that_holds(loads: &[Load], size: usize, addr: u64, len: u64) -> Option<L
     ensures from { IfSome result (λ load. load.vaddr ≤ addr) }
     ensures to { IfSome result (λ load. addr + len ≤ load.vaddr + load.file_size) }
 {
-    let before = loads.partition_point(|load| load.ends_by(addr));
+    let before = count_ending_by(loads, addr);
     let load = *loads.get(before)?;
     if load.holds(addr, len) {
         Some(load)
     } else {
         None
     }
+}
+
+/// How many of the loads, which end in order, end by an address.
+fn count_ending_by(loads: &[Load], addr: u64) -> usize
+    requires { IsNonDecreasingBy file_end loads.now }
+    ensures { IsPartitionPoint (λ load. nat_le (file_end load) addr ≡ true)
+        (λ load. nat_le (file_end load) addr ≡ false) loads.now result }
+{
+    loads.partition_point(|load| load.ends_by(addr))
 }
 
 /// Where the file has the `len` bytes from an address on; None where no load holds them all.
