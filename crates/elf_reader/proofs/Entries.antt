@@ -1,10 +1,11 @@
 -- The entries of the dynamic section, one after another.
-use Rattle.std.proofs.Common.{◌≡◌, ℕ, zero, suc, ◌+◌, ◌*◌, ◌<◌, ◌≤◌, Bool, true, false, List, [], ◌∷◌, ◌++◌, length, map, take, drop, get_or, min, Result, Ok, Err, refl, sym, ap, ◌∙◌, inl, inr, arith}
+use Rattle.std.proofs.Common.{◌≡◌, ℕ, suc, ◌+◌, ◌*◌, ◌<◌, ◌≤◌, Bool, true, false, List, [], ◌∷◌, ◌++◌, length, take, drop, get_or, Result, Ok, Err, refl, ap, ◌∙◌, inl, inr, arith}
 use Rattle.std.specs.Prelude.{All, nat_lt}
-use Rattle.std.specs.List.{range_with_len, before_first, position_or_len}
+use Rattle.std.specs.List.{before_first, position_or_len}
 use Rattle.std.proofs.lemmas.Bool.{cases_lt, lt-ltb, le-ltb, both_ways}
 use Rattle.std.proofs.lemmas.List.{take_more, length-take, get_or-take, take_all, take-take, take-append-drop}
 use Rattle.std.proofs.Math.Seq.{drop-cons}
+use Rattle.std.proofs.lemmas.List.Elements.{All-push}
 use Rattle.std.proofs.lemmas.List.FromFn.{length-map-range_with_len, get_or-map-range_with_len}
 use Rattle.std.proofs.lemmas.List.Sums.{position_or_len_is, passes_at_first}
 use Rattle.byte_view.specs.Numbers.{le}
@@ -16,11 +17,11 @@ use Rattle.elf_reader.specs.declared.part.ElfBad.{ElfBad}
 use Rattle.elf_reader.specs.Refusals.{Refuses}
 use Rattle.elf_reader.proofs.Steps.{refuses_as}
 
-abbrev Entry : Type 0
+abbrev pub Entry : Type 0
 Entry = definition.Entry
 
 -- entries that pass are followed by the rest
-pub checks_append : (xs ys : List Entry) → definition.check_entries xs ≡ Ok 0 → definition.check_entries (xs ++ ys) ≡ definition.check_entries ys
+checks_append : (xs ys : List Entry) → definition.check_entries xs ≡ Ok 0 → definition.check_entries (xs ++ ys) ≡ definition.check_entries ys
 unfolding definition.check_entries
 checks_append [] ys e = refl
 checks_append (x ∷ xs) ys e =
@@ -39,14 +40,14 @@ checks_fail : (x : Entry) (ys : List Entry) (d : Broken) → definition.check_en
 unfolding definition.check_entries
 checks_fail x ys d e = bind_err (definition.check_entry x) (λ _. definition.check_entries ys) d e
 
-pub checks_push : (xs : List Entry) (x : Entry) (y : ℕ) → definition.check_entries xs ≡ Ok 0 → definition.check_entry x ≡ Ok y → definition.check_entries (xs ++ x ∷ []) ≡ Ok 0
+checks_push : (xs : List Entry) (x : Entry) (y : ℕ) → definition.check_entries xs ≡ Ok 0 → definition.check_entry x ≡ Ok y → definition.check_entries (xs ++ x ∷ []) ≡ Ok 0
 checks_push xs x y before e = checks_append xs (x ∷ []) before ∙ checks_one x [] y e ∙ no_checks
 
 module _ (bytes : List ℕ) (header : ℕ) where
-  abbrev all : List Entry
+  abbrev pub all : List Entry
   all = definition.entries bytes header
 
-  abbrev start : ℕ
+  abbrev pub start : ℕ
   start = le bytes (header + 8) 8
 
   pub entries_count : length all ≡ definition.entry_count bytes header
@@ -57,16 +58,20 @@ module _ (bytes : List ℕ) (header : ℕ) where
   unfolding definition.entries
   entry_there k d h = get_or-map-range_with_len (λ k. definition.entry_at bytes (start + 16 * k)) 0 (definition.entry_count bytes header) k k d h (omega arith)
 
-  pub none_taken : take 0 all ≡ []
-  none_taken = refl
-
   pub one_more : (k : ℕ) → k < definition.entry_count bytes header → take (k + 1) all ≡ take k all ++ definition.entry_at bytes (start + 16 * k) ∷ []
   one_more k h =
       let d : Entry = definition.entry_at bytes 0 in
       rw (← entry_there k d h) (take_more all k d (omega (arith, entries_count)))
 
-  abbrev Going : ℕ → Type 0
+  -- none of the first entries ends the table
+  abbrev pub Going : ℕ → Type 0
   Going k = All (λ (entry : Entry). definition.is_end entry ≡ false) (take k all)
+
+  pub goes_more : (k : ℕ) → k < definition.entry_count bytes header → Going k → definition.is_end (definition.entry_at bytes (start + 16 * k)) ≡ false → Going (k + 1)
+  goes_more k h going e = rw (one_more k h) (All-push (λ (entry : Entry). definition.is_end entry ≡ false) (take k all) (definition.entry_at bytes (start + 16 * k)) going e)
+
+  pub checked_more : (k y : ℕ) → k < definition.entry_count bytes header → definition.check_entries (take k all) ≡ Ok 0 → definition.check_entry (definition.entry_at bytes (start + 16 * k)) ≡ Ok y → definition.check_entries (take (k + 1) all) ≡ Ok 0
+  checked_more k y h checked e = rw (one_more k h) (checks_push (take k all) (definition.entry_at bytes (start + 16 * k)) y checked e)
 
   goes : (k j : ℕ) (d : Entry) → k ≤ definition.entry_count bytes header → Going k → j < k → definition.is_end (get_or all j d) ≡ false
   goes k j d h going l =
@@ -134,8 +139,8 @@ module _ (bytes : List ℕ) (header : ℕ) where
       let on : k < position_or_len definition.is_end all = goes_on k d h going (rw there more) in
       let n : ℕ = position_or_len definition.is_end all in
       refuses_as e (definition.check_entry (definition.entry_at bytes (start + 16 * k))) (definition.dynamic_table bytes header) (λ f it.
-        let within : k < length (take (position_or_len definition.is_end all) all) = omega (arith, length-take (position_or_len definition.is_end all) all, entries_count) in
-        let front : take k (take (position_or_len definition.is_end all) all) ≡ take k all = take-take k (position_or_len definition.is_end all) all (omega arith) in
-        let here : get_or (take (position_or_len definition.is_end all) all) k d ≡ definition.entry_at bytes (start + 16 * k) = get_or-take (position_or_len definition.is_end all) all k d on ∙ there in
-        let cut = cut_at (take (position_or_len definition.is_end all) all) k d f within (rw front checked) (rw here it) in
-        by_place (position_or_len definition.is_end all) refl ∙ bind_err _ (λ _. must (nat_lt (length (take (position_or_len definition.is_end all) all)) (length all)) parts.dynamic (header + 8) >>= λ _. Ok (take (position_or_len definition.is_end all) all)) f cut) r
+      let within : k < length (take (position_or_len definition.is_end all) all) = omega (arith, length-take (position_or_len definition.is_end all) all, entries_count) in
+      let front : take k (take (position_or_len definition.is_end all) all) ≡ take k all = take-take k (position_or_len definition.is_end all) all (omega arith) in
+      let here : get_or (take (position_or_len definition.is_end all) all) k d ≡ definition.entry_at bytes (start + 16 * k) = get_or-take (position_or_len definition.is_end all) all k d on ∙ there in
+      let cut = cut_at (take (position_or_len definition.is_end all) all) k d f within (rw front checked) (rw here it) in
+      by_place (position_or_len definition.is_end all) refl ∙ bind_err _ (λ _. must (nat_lt (length (take (position_or_len definition.is_end all) all)) (length all)) parts.dynamic (header + 8) >>= λ _. Ok (take (position_or_len definition.is_end all) all)) f cut) r

@@ -7,3 +7,4 @@ pub mod Bisected
 pub mod LoadSteps
 pub mod Entries
 pub mod Texts
+pub mod Buckets

@@ -1,11 +1,10 @@
 -- The loads of the program headers, one after another.
-use Rattle.std.proofs.Common.{◌≡◌, ℕ, zero, suc, ◌+◌, ◌*◌, ◌^◌, ◌<◌, ◌≤◌, Bool, true, false, List, [], ◌∷◌, ◌++◌, length, map, get_or, Result, Ok, Err, refl, arith}
-use Rattle.std.specs.Prelude.{All, AllPairs}
+use Rattle.std.proofs.Common.{◌≡◌, ℕ, ◌+◌, ◌*◌, ◌^◌, ◌<◌, ◌≤◌, true, false, List, [], ◌∷◌, ◌++◌, Result, Ok, Err, refl, arith}
+use Rattle.std.specs.Prelude.{All}
 use Rattle.std.proofs.lemmas.List.Elements.{All-push, All-weaker}
 use Rattle.std.proofs.lemmas.List.Quantifiers.{all_pairs_push}
-use Rattle.byte_view.specs.Reading.{Broken, ◌>>=◌}
+use Rattle.byte_view.specs.Reading.{Broken}
 use Rattle.byte_view.specs.ElfLoads as definition
-use Rattle.byte_view.proofs.Reading.{bind_err, bind_read}
 use Rattle.elf_reader.specs.declared.part.ElfBad.{ElfBad}
 use Rattle.elf_reader.specs.declared.elf.Load.{Load}
 use Rattle.elf_reader.specs.Refusals.{Refuses}
@@ -60,3 +59,6 @@ sound_push size end loads load sound before in_file low behind = record {
 
 pub before_push : (end next : ℕ) (loads : List Load) (load : Load) → All (λ one. file_end one ≤ end) loads → end ≤ next → file_end load ≤ next → All (λ one. file_end one ≤ next) (loads ++ load ∷ [])
 before_push end next loads load before le here = All-push (λ one. file_end one ≤ next) loads load (All-weaker (λ one. file_end one ≤ end) (λ one. file_end one ≤ next) (λ one h. omega arith) loads before) here
+
+pub sound_none : (size : ℕ) → AreSound size []
+sound_none size = record { in_file = λ k d h. absurd (omega arith); low = λ k d h. absurd (omega arith); apart = λ i j d l h. absurd (omega arith) }

@@ -1,5 +1,5 @@
 -- The program header of the dynamic section among the program headers, one after another.
-use Rattle.std.proofs.Common.{◌≡◌, ℕ, zero, suc, ◌+◌, ◌*◌, ◌<◌, Bool, true, false, List, Option, Some, None, Result, Ok, Err, refl}
+use Rattle.std.proofs.Common.{◌≡◌, ℕ, ◌+◌, ◌*◌, ◌<◌, Bool, true, false, List, Option, Some, None, Result, Ok, Err, refl}
 use Rattle.std.specs.Prelude.{is_some, not}
 use Rattle.byte_view.specs.Reading.{Broken, must}
 use Rattle.byte_view.specs.ElfLoads.{is_of_type, pt_dynamic}

@@ -1,7 +1,7 @@
 -- The steps of a reading, as loops take them.
-use Rattle.std.proofs.Common.{◌≡◌, ℕ, zero, suc, ◌+◌, ◌<◌, ◌≤◌, Bool, true, false, List, [], ◌∷◌, ◌++◌, Result, Ok, Err, refl, ◌∙◌, add-one, inl, inr, arith}
+use Rattle.std.proofs.Common.{◌≡◌, ℕ, zero, suc, ◌+◌, ◌<◌, ◌≤◌, List, [], ◌∷◌, ◌++◌, Result, Ok, Err, refl, ◌∙◌, add-one, inl, inr, arith}
 use Rattle.std.proofs.lemmas.Bool.{cases_lt}
-use Rattle.byte_view.specs.Reading.{Broken, ◌>>=◌, must, each, listed}
+use Rattle.byte_view.specs.Reading.{Broken, ◌>>=◌, each, listed}
 use Rattle.byte_view.proofs.Reading.{bind_err, bind_read, each_next, each_fails, listed_next, listed_fails}
 use Rattle.elf_reader.specs.declared.part.ElfBad.{ElfBad}
 use Rattle.elf_reader.specs.declared.part.ElfBad.TheVariants.{BadElf, Memory}

@@ -1,7 +1,6 @@
 -- The words of a chain up to the first odd one.
-use Rattle.std.proofs.Common.{◌≡◌, ◌+◌, ◌*◌, ◌/◌, ◌%◌, ◌<◌, Bool, ℕ, true, false, List, Option, Some, None, option_map, length, map, get_or, refl, ap, arith, zero-add}
-use Rattle.std.specs.Prelude.{◌==◌, position}
-use Rattle.std.specs.List.{range_with_len}
+use Rattle.std.proofs.Common.{◌≡◌, ◌+◌, ◌*◌, ◌/◌, ◌%◌, ◌<◌, Bool, ℕ, true, false, List, Some, None, option_map, length, get_or, refl, ap, arith, zero-add}
+use Rattle.std.specs.Prelude.{◌==◌}
 use Rattle.std.proofs.lemmas.List.FromFn.{length-map-range_with_len, get_or-map-range_with_len}
 use Rattle.byte_view.specs.Numbers.{le}
 use Rattle.byte_view.specs.ElfSymbols.{words_at, chain_length}

@@ -75,7 +75,7 @@ fn last_chain(bytes: &[u8], at: usize, count: usize, first: u32) -> Option<u32>
     for k in 0..count {
         let start = number32(bytes, at + 4 * k);
         greatest = greatest.max(start);
-        is_hashed = is_hashed || first <= start;
+        is_hashed |= first <= start;
     }
     is_hashed.then_some(greatest)
 }

@@ -1,7 +1,5 @@
-use Rattle.std.proofs.Common.{◌≡◌, ◌+◌, ◌<◌, ◌≤◌, length, map, true, false, find, Some, option_map, sym, ◌∙◌, ap, arith}
-use Rattle.std.proofs.lemmas.Bool.{ltb-true, ltb-false}
-use Rattle.byte_view.specs.ElfLoads.{holds_range}
-use Rattle.elf_reader.specs.Elf.{load_of}
+use Rattle.std.proofs.Common.{◌≤◌, length, sym, ◌∙◌, arith}
+use Rattle.std.proofs.lemmas.Bool.{ltb-false}
 use Rattle.elf_reader.proofs.Bisected.{ends_rise, holds_from, holds_to, found, refused}
 use Rattle.elf_reader.proofs.loads.load_that_holds.Goals as goal
 

@@ -1,7 +1,6 @@
-use Rattle.std.proofs.Common.{◌≡◌, ◌+◌, ◌≤◌, length, map, Ok}
+use Rattle.std.proofs.Common.{◌≡◌, ◌≤◌, length, map, Ok}
 use Rattle.std.specs.Prelude.{All}
 use Rattle.byte_view.specs.ElfLoads.{loads, last_end}
-use Rattle.elf_reader.specs.declared.elf.Load.{Load}
 use Rattle.elf_reader.specs.Elf.{load_of}
 use Rattle.elf_reader.specs.Loads.{AreSound, file_end}
 use Rattle.elf_reader.proofs.loads.read_loads.Given as goal

@@ -1,4 +1,4 @@
-use Rattle.std.proofs.Common.{◌≡◌, ◌+◌, ◌*◌, ℕ, not, List, Result}
+use Rattle.std.proofs.Common.{◌+◌, ◌*◌, ℕ, not, List, Result}
 use Rattle.std.proofs.lemmas.Result.{err_from_is_err_and}
 use Rattle.byte_view.specs.Reading.{Broken, must}
 use Rattle.byte_view.specs.ElfLoads.{is_of_type, pt_tls}
