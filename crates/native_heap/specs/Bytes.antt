@@ -1,6 +1,6 @@
 -- Copying, comparing and filling ranges of bytes (ISO/IEC 9899 7.24). Where that standard leaves room: `memcpy` is `memmove` also
 -- where its ranges overlap; a comparison answers -1, 0 or 1, as a word of 64 bits; a range of no bytes may be anywhere.
-use Rattle.std.specs.Prelude.{ℕ, ◌-◌, ◌%◌, ◌^◌, List, replicate, Ordering, nat_cmp}
+use Rattle.std.specs.Prelude.{ℕ, ◌-◌, ◌%◌, ◌^◌, List, replicate, Some}
 use Rattle.std.specs.Ordering.{nat_cmp}
 use Rattle.std.specs.declared.cmp.Ordering.{Ordering}
 use Rattle.std.specs.declared.cmp.Ordering.TheVariants.{Less, Equal, Greater}

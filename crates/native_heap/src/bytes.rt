@@ -11,7 +11,7 @@ use std::cmp::Ordering;
 
 /// Copies a range of `len` bytes, also to one that overlaps it, and answers `to`. It faults where the one can't be read or the
 /// other can't be written; that is found before any memory is taken.
-#[tactic(auto, unfolding(crate::specs::Bytes::memmove))]
+#[tactic(auto, using(crate::proofs::Writing::writing), unfolding(crate::specs::Bytes::memmove))]
 pub fn memmove(
     alloc: Global,
     memory: &mut Memory,
@@ -23,12 +23,12 @@ pub fn memmove(
     ensures err { IfErr result (λ bad. Refuses bad (memmove memory.old to from len)) }
     ensures unchanged { OnErr result (memory.new ≡ memory.old) }
 {
-    if !memory.holds(to, len, true) {
-        return Err(HeapBad::Fault);
-    }
     let Some(bytes) = memory.contents(from, len) else {
         return Err(HeapBad::Fault);
     };
+    if !memory.holds(to, len, true) {
+        return Err(HeapBad::Fault);
+    }
     let bytes = Vec::from_slice(alloc, bytes)?;
     memory.write(to, &bytes)?;
     Ok(to)
@@ -36,7 +36,7 @@ pub fn memmove(
 
 /// Fills a range of `len` bytes with the lowest byte of a word, and answers `to`. It faults where the range can't be written;
 /// that is found before any memory is taken.
-#[tactic(auto, unfolding(crate::specs::Bytes::memset))]
+#[tactic(auto, using(crate::proofs::Writing::writing), unfolding(crate::specs::Bytes::memset))]
 pub fn memset(alloc: Global, memory: &mut Memory, to: u64, c: u64, len: u64) -> Result<u64, HeapBad>
     ensures ok { IfOk result (λ answer. memset memory.old to c len ≡ Some (answer, memory.new)) }
     ensures err { IfErr result (λ bad. Refuses bad (memset memory.old to c len)) }

@@ -1,9 +1,9 @@
 //! Texts that end with a zero (ISO/IEC 9899 7.24).
 
-ghost use Rattle.std.specs.Prelude.{◌≡◌, Some, IfOk, IfErr, OnErr, option_map, length};
-ghost use Rattle.native_memory.specs.Ranges.{rest_at};
+ghost use Rattle.std.specs.Prelude.{◌≡◌, ◌<◌, Some, IfOk, IfErr, OnErr, IfSome, length, position};
+ghost use Rattle.std.specs.Option.{option_copied};
 ghost use Rattle.native_heap.specs.Outcome.{Refuses};
-ghost use Rattle.native_heap.specs.Texts.{text_at, strlen, strcpy, strcmp};
+ghost use Rattle.native_heap.specs.Texts.{is_zero, text_at, strlen, strcpy, strcmp};
 
 use crate::bytes::sign;
 use crate::refusal::HeapBad;
@@ -25,7 +25,7 @@ pub fn strlen(memory: &Memory, s: u64) -> Result<u64, HeapBad>
 
 /// Copies a text and its zero, also over itself, and answers `to`. It faults where there is no text at `from`, or the copy can't
 /// be written; that is found before any memory is taken.
-#[tactic(auto, unfolding(crate::specs::Texts::strcpy))]
+#[tactic(auto, using(crate::proofs::Writing::writing), unfolding(crate::specs::Texts::strcpy))]
 pub fn strcpy(alloc: Global, memory: &mut Memory, to: u64, from: u64) -> Result<u64, HeapBad>
     ensures ok { IfOk result (λ answer. strcpy memory.old to from ≡ Some (answer, memory.new)) }
     ensures err { IfErr result (λ bad. Refuses bad (strcpy memory.old to from)) }
@@ -70,11 +70,19 @@ pub fn strcmp(memory: &Memory, a: u64, b: u64) -> Result<u64, HeapBad>
 /// The text at an address, without its zero: it stands in one block. None where that has no zero from there on, or can't be read.
 #[tactic(auto, unfolding(crate::specs::Texts::text_at))]
 fn text(memory: &Memory, s: u64) -> Option<&[u8]>
-    ensures { option_map (λ text. text.now) result ≡ text_at memory.now s }
+    ensures { option_copied result ≡ text_at memory.now s }
 {
     let rest = memory.rest(s)?;
-    let len = rest.iter().position(|byte| *byte == 0)?;
+    let len = zero_in(rest)?;
     Some(&rest[..len])
+}
+
+/// The place of the first zero.
+fn zero_in(bytes: &[u8]) -> Option<usize>
+    ensures place { result ≡ position is_zero bytes.now }
+    ensures within { IfSome result (λ at. at < length bytes.now) }
+{
+    bytes.iter().position(|byte| *byte == 0)
 }
 
 /// The byte at an address, None where it can't be read.
