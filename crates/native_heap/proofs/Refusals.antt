@@ -1,0 +1,19 @@
+-- Calls for which memory is wanting.
+use Rattle.std.proofs.Common.{◌≡◌, Option, Some, None, Result, Ok, Err, IfErr, refl}
+use Rattle.std.specs.Prelude.{ℕ, IsSome, IsErrAnd}
+use Rattle.native_memory.specs.AddressSpace.{AddressSpace}
+use Rattle.native_heap.specs.declared.refusal.HeapBad.{HeapBad}
+use Rattle.native_heap.specs.declared.refusal.HeapBad.TheVariants.{Memory}
+use Rattle.native_heap.specs.Outcome.{Refuses, answering}
+
+refuses_memory : {T : Type 0} (bad : HeapBad) (outcome : Option T) → bad ≡ Memory → IsSome outcome → Refuses bad outcome
+refuses_memory bad outcome memory some = rw memory some
+
+-- what a `?` answers where memory is wanting
+pub refused : {T X : Type 0} (r : Result X HeapBad) (outcome : Option T) → IsErrAnd r (λ bad. bad ≡ Memory) → IsSome outcome → IfErr r (λ bad. Refuses bad outcome)
+refused (Ok x) outcome memory some = absurd memory
+refused (Err bad) outcome memory some = refuses_memory bad outcome memory some
+
+pub answering_done : (answer : ℕ) (change : Option AddressSpace) → IsSome change → IsSome (answering answer change)
+answering_done answer None some = some
+answering_done answer (Some new) some = refl
