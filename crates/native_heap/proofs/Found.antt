@@ -1,0 +1,50 @@
+-- What a search finds in a list of blocks that grows or changes.
+use Rattle.std.proofs.Common.{◌≡◌, ◌∙◌, ℕ, ◌≤◌, Bool, true, false, cond, List, [], ◌∷◌, ◌++◌, map, Option, Some, None, arith, refl}
+use Rattle.std.specs.Prelude.{is_some}
+use Rattle.std.specs.List.{find}
+use Rattle.native_memory.specs.AddressSpace.{Block}
+use Rattle.native_memory.specs.Placement.{edge_of}
+use Rattle.native_memory.specs.Sound.{LieBetween}
+use Rattle.native_memory.specs.Search.{FailsAll}
+use Rattle.native_memory.proofs.Picks.{AsksFor}
+
+-- the start of a list of blocks lies below what is behind its end
+below_all : (from end addr : ℕ) (blocks : List Block) → LieBetween from blocks end → end ≤ addr → from ≤ addr
+below_all from end addr [] lie below = let last : from ≤ end = lie in omega arith
+below_all from end addr (block ∷ rest) lie below =
+    let low : from ≤ block.base = lie.0 in
+    let more : edge_of block ≤ addr = below_all (edge_of block) end addr rest lie.1 below in
+    omega arith
+
+-- a test that asks for an address fails at all blocks below it
+pub fails_before : (test : Block → Bool) (addr from end : ℕ) (blocks : List Block) → AsksFor test addr → LieBetween from blocks end → end ≤ addr → FailsAll test blocks
+fails_before test addr from end [] asks lie below = tt
+fails_before test addr from end (block ∷ rest) asks lie below =
+    (asks.below block (below_all (edge_of block) end addr rest lie.1 below), fails_before test addr (edge_of block) end rest asks lie.1 below)
+
+-- then what stands behind them is looked at
+pub find_behind : (test : Block → Bool) (blocks more : List Block) → FailsAll test blocks → find test (blocks ++ more) ≡ find test more
+find_behind test [] more fails = refl
+find_behind test (block ∷ rest) more fails = rw fails.0 (find_behind test rest more fails.1)
+
+appended_if : (here : Bool) (test : Block → Bool) (block found : Block) (rest more : List Block) → cond here (Some block) (find test rest) ≡ Some found
+    → (find test rest ≡ Some found → find test (rest ++ more) ≡ Some found) → cond here (Some block) (find test (rest ++ more)) ≡ Some found
+appended_if true test block found rest more is others = is
+appended_if false test block found rest more is others = others is
+
+-- what is found is found also where more blocks stand behind
+pub find_appended : (test : Block → Bool) (blocks more : List Block) (found : Block) → find test blocks ≡ Some found → find test (blocks ++ more) ≡ Some found
+find_appended test [] more found is = cc
+find_appended test (block ∷ rest) more found is = appended_if (test block) test block found rest more is (find_appended test rest more found)
+
+mapped_if : (here : Bool) (test : Block → Bool) (change : Block → Block) (block : Block) (rest : List Block)
+    → is_some (find test (map change rest)) ≡ is_some (find test rest)
+    → is_some (cond here (Some (change block)) (find test (map change rest))) ≡ is_some (cond here (Some block) (find test rest))
+mapped_if true test change block rest others = refl
+mapped_if false test change block rest others = others
+
+-- a change that the test doesn't see leaves whether something is found
+pub find_mapped : (test : Block → Bool) (change : Block → Block) (blocks : List Block) → ((block : Block) → test (change block) ≡ test block)
+    → is_some (find test (map change blocks)) ≡ is_some (find test blocks)
+find_mapped test change [] same = refl
+find_mapped test change (block ∷ rest) same = rw (same block) (mapped_if (test block) test change block rest (find_mapped test change rest same))
