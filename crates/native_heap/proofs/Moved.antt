@@ -1,17 +1,16 @@
 -- A new block can be written as soon as it is placed, and the old one is still there to be ended.
-use Rattle.std.proofs.Common.{◌≡◌, ◌∙◌, ℕ, ◌+◌, ◌≤◌, ◌<◌, ◌≢◌, nat_eq, nat_le, Bool, true, false, cond, ◌&&◌, if◌then◌else◌, List, [], ◌∷◌, ◌++◌, length, map, replicate, Option, Some, None, arith, refl, sym}
+use Rattle.std.proofs.Common.{◌≡◌, ◌∙◌, ℕ, ◌+◌, ◌≤◌, ◌<◌, ◌≢◌, nat_eq, Bool, true, false, cond, if◌then◌else◌, List, [], ◌∷◌, ◌++◌, length, replicate, Option, Some, None, arith, refl}
 use Rattle.std.specs.Prelude.{min, is_some, IsSome, option_map, option_and_then}
 use Rattle.std.specs.List.{find}
 use Rattle.std.proofs.lemmas.Bool.Decides.{nat_tests}
-use Rattle.bound_base.specs.declared.limits.Rights.{Rights}
 use Rattle.native_memory.specs.declared.kind.Kind.TheVariants.{Heap}
 use Rattle.native_memory.specs.AddressSpace.{Block, AddressSpace, lowest, changed, is_heap}
 use Rattle.native_memory.specs.Ranges.{covers, may_read, may_write, open_bytes, part, bytes_at, write_in, with_written, written_at}
-use Rattle.native_memory.specs.Placement.{Does, has_room, with_behind, with_block, placed, ended, stands_at, block_with, up_to_16}
+use Rattle.native_memory.specs.Placement.{Does, has_room, with_behind, placed, ended, stands_at, block_with, up_to_16}
 use Rattle.native_memory.specs.Sound.{IsSound}
 use Rattle.native_memory.proofs.Picks.{asks_covers}
 use Rattle.native_memory.proofs.Kept.{changed_keeps, writes_keep}
-use Rattle.native_heap.specs.Outcome.{◌>>=◌, answering}
+use Rattle.native_heap.specs.Outcome.{◌>>=◌}
 use Rattle.native_heap.specs.Allocation.{heap_placed, heap_block, moved, malloc, realloc}
 use Rattle.native_heap.proofs.Refusals.{answering_done}
 use Rattle.native_heap.proofs.Found.{fails_before, find_behind, find_appended, find_mapped}

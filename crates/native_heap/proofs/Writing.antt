@@ -1,5 +1,5 @@
 -- Whether a write faults, by the test that is made before it, and what that means for the functions that write.
-use Rattle.std.proofs.Common.{◌≡◌, ℕ, ◌+◌, ◌%◌, nat_eq, Bool, true, false, List, [], ◌∷◌, ◌++◌, length, replicate, Option, Some, None, cond, arith, refl}
+use Rattle.std.proofs.Common.{◌≡◌, ℕ, ◌+◌, ◌%◌, nat_eq, Bool, true, false, List, [], ◌∷◌, ◌++◌, length, replicate, Some, None, cond, arith, refl}
 use Rattle.std.specs.Prelude.{is_some, IsSome}
 use Rattle.std.proofs.lemmas.List.{length-append, length-replicate}
 use Rattle.native_memory.specs.AddressSpace.{AddressSpace}

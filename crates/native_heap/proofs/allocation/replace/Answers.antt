@@ -1,7 +1,4 @@
-use Rattle.std.proofs.Common.{rules, arith, ◌≡◌, Option, Some, refl, sym, ◌∙◌}
-use Rattle.std.specs.Prelude.{IsSome}
-use Rattle.native_memory.specs.AddressSpace.{AddressSpace}
-use Rattle.native_memory.specs.Ranges.{written_at}
+use Rattle.std.proofs.Common.{◌≡◌}
 use Rattle.native_heap.proofs.Moved.{new_is_written, still_placed, still_written, ends, does_end, moved_is, moved_done}
 use Rattle.native_heap.proofs.allocation.replace.Goals as goal
 

@@ -1,4 +1,4 @@
-use Rattle.std.proofs.Common.{rules, sym}
+use Rattle.std.proofs.Common.{rules}
 use Rattle.native_heap.proofs.Refusals.{refused}
 use Rattle.native_heap.proofs.Writing.{memset_done, memset_refused}
 use Rattle.native_heap.proofs.bytes.memset.Goals as goal
