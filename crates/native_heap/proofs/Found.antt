@@ -1,6 +1,6 @@
 -- What a search finds in a list of blocks that grows or changes.
-use Rattle.std.proofs.Common.{◌≡◌, ℕ, ◌≤◌, Bool, true, false, cond, List, [], ◌∷◌, ◌++◌, map, Some, arith, refl}
-use Rattle.std.specs.Prelude.{is_some}
+use Rattle.std.proofs.Common.{◌≡◌, ℕ, suc, ◌≤◌, ◌<◌, length, Bool, true, false, cond, List, [], ◌∷◌, ◌++◌, map, Some, arith, refl}
+use Rattle.std.specs.Prelude.{All, is_some, option_map}
 use Rattle.std.specs.List.{find}
 use Rattle.native_memory.specs.AddressSpace.{Block}
 use Rattle.native_memory.specs.Placement.{edge_of}
@@ -48,3 +48,36 @@ pub find_mapped : (test : Block → Bool) (change : Block → Block) (blocks : L
     → is_some (find test (map change blocks)) ≡ is_some (find test blocks)
 find_mapped test change [] same = refl
 find_mapped test change (block ∷ rest) same = rw (same block) (mapped_if (test block) test change block rest (find_mapped test change rest same))
+
+changed_if : (here : Bool) (test : Block → Bool) (change : Block → Block) (block : Block) (rest : List Block)
+    → find test (map change rest) ≡ option_map change (find test rest)
+    → cond here (Some (change block)) (find test (map change rest)) ≡ option_map change (cond here (Some block) (find test rest))
+changed_if true test change block rest others = refl
+changed_if false test change block rest others = others
+
+-- such a change is made of what is found
+pub find_changed : (test : Block → Bool) (change : Block → Block) (blocks : List Block) → ((block : Block) → test (change block) ≡ test block)
+    → find test (map change blocks) ≡ option_map change (find test blocks)
+find_changed test change [] same = refl
+find_changed test change (block ∷ rest) same = rw (same block) (changed_if (test block) test change block rest (find_changed test change rest same))
+
+passes_if : (here : Bool) (test : Block → Bool) (block found : Block) (rest : List Block) → test block ≡ here → cond here (Some block) (find test rest) ≡ Some found
+    → (find test rest ≡ Some found → test found ≡ true) → test found ≡ true
+passes_if true test block found rest is here others = let same : block ≡ found = cc in rw (← same) is
+passes_if false test block found rest is here others = others here
+
+-- what is found passes the test
+pub found_passes : (test : Block → Bool) (blocks : List Block) (found : Block) → find test blocks ≡ Some found → test found ≡ true
+found_passes test [] found is = cc
+found_passes test (block ∷ rest) found is = passes_if (test block) test block found rest refl is (found_passes test rest found)
+
+of_all_if : (here : Bool) (P : Block → Type 0) (test : Block → Bool) (block found : Block) (rest : List Block) → P block → cond here (Some block) (find test rest) ≡ Some found
+    → (find test rest ≡ Some found → P found) → P found
+of_all_if true P test block found rest first is others = let same : block ≡ found = cc in rw (← same) first
+of_all_if false P test block found rest first is others = others is
+
+-- what holds of all blocks holds of the one that is found
+pub found_of_all : (P : Block → Type 0) (test : Block → Bool) (blocks : List Block) (found : Block) → All P blocks → find test blocks ≡ Some found → P found
+found_of_all P test [] found all is = cc
+found_of_all P test (block ∷ rest) found all is =
+    of_all_if (test block) P test block found rest (all 0 block (omega arith)) is (found_of_all P test rest found (λ k d within. all (suc k) d (omega arith)))

@@ -1,5 +1,5 @@
 -- Calls for which memory is wanting.
-use Rattle.std.proofs.Common.{◌≡◌, Option, Some, None, Result, Ok, Err, IfErr, refl}
+use Rattle.std.proofs.Common.{◌≡◌, ap, Option, Some, None, Result, Ok, Err, IfErr, refl}
 use Rattle.std.specs.Prelude.{ℕ, IsSome, IsErrAnd}
 use Rattle.native_memory.specs.AddressSpace.{AddressSpace}
 use Rattle.native_heap.specs.declared.refusal.HeapBad.{HeapBad}
@@ -17,3 +17,16 @@ refused (Err bad) outcome memory some = refuses_memory bad outcome memory some
 pub answering_done : (answer : ℕ) (change : Option AddressSpace) → IsSome change → IsSome (answering answer change)
 answering_done answer None some = some
 answering_done answer (Some new) some = refl
+
+some_pair : {A B : Type 0} (p q : A × B) → Some p ≡ Some q → p ≡ q
+some_pair p q is = cc
+
+-- of a change that was answered
+pub answered_is : (to answer : ℕ) (change : Option AddressSpace) (new : AddressSpace) → answering to change ≡ Some (answer, new) → (to ≡ answer) × (change ≡ Some new)
+answered_is to answer None new is = cc
+answered_is to answer (Some made) new is =
+    let same : (to, made) ≡ (answer, new) = some_pair (to, made) (answer, new) is in
+    (ap (λ done. done.0) same, ap (λ done. Some done.1) same)
+
+pub answered_new : (to answer : ℕ) (change : Option AddressSpace) (new : AddressSpace) → answering to change ≡ Some (answer, new) → change ≡ Some new
+answered_new to answer change new is = (answered_is to answer change new is).1

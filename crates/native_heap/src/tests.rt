@@ -2,24 +2,36 @@
 
 ghost use Rattle.std.specs.Prelude.{◌≡◌, ◌<◌, ◌≤◌, ◌^◌, length};
 
-use crate::{HeapBad, Regs0, call, function_name, host_function};
+use crate::{HeapBad, Regs0, call, function_name, host_function, laws};
 use bound_base::Rights;
 use native_memory::{Kind, Memory};
 use std::alloc::Global;
 use std::test::Fail;
 
 const MALLOC: u8 = 0;
+
 const CALLOC: u8 = 1;
+
 const REALLOC: u8 = 2;
+
 const FREE: u8 = 3;
+
 const MEMCPY: u8 = 4;
+
 const MEMMOVE: u8 = 5;
+
 const MEMSET: u8 = 6;
+
 const MEMCMP: u8 = 7;
+
 const STRLEN: u8 = 8;
+
 const STRCMP: u8 = 9;
+
 const STRCPY: u8 = 10;
+
 const ERRNO_LOCATION: u8 = 11;
+
 const ABORT: u8 = 12;
 
 /// -1 as a word.
@@ -44,7 +56,11 @@ fn answer(alloc: Global, memory: &mut Memory, k: u8, args: [u64; 3]) -> Result<u
     let answer = regs[10];
     want[10] = answer;
     done?;
-    if regs == want { Ok(answer) } else { Err(HeapBad::Fault) }
+    if regs == want {
+        Ok(answer)
+    } else {
+        Err(HeapBad::Fault)
+    }
 }
 
 /// A new block with bytes in it.
@@ -109,7 +125,10 @@ fn realloc_keeps_the_front(rt: HostRuntime) -> Result<(), Fail> {
     assert_eq!(rt; memory.contents(grown, 6), Some(&b"abcd\0\0"[..]));
     let shrunk = answer(rt.alloc(), &mut memory, REALLOC, [grown, 3, 7])?;
     assert_eq!(rt; memory.contents(shrunk, 3), Some(&b"abc"[..]));
-    assert_eq!(rt; answer(rt.alloc(), &mut memory, REALLOC, [shrunk, 18, 7]), Ok(0));
+    assert_eq!(rt;
+        answer(rt.alloc(), &mut memory, REALLOC, [shrunk, 18, 7]),
+        Ok(0)
+    );
     assert_eq!(rt; memory.contents(shrunk, 3), Some(&b"abc"[..]));
     let empty = answer(rt.alloc(), &mut memory, REALLOC, [shrunk, 0, 7])?;
     assert_eq!(rt; memory.block_at(empty), Some((0, DATA, Kind::Heap)));
@@ -144,7 +163,11 @@ fn eight_bytes_need_eight(rt: HostRuntime) -> Result<(), Fail> {
 fn no_bytes_may_be_anywhere(rt: HostRuntime) -> Result<(), Fail> {
     let mut memory = Memory::new(rt.alloc(), 1 << 20);
     for (k, want) in [(MEMCPY, 1), (MEMMOVE, 1), (MEMSET, 1), (MEMCMP, 0)] {
-        assert_eq!(rt; answer(rt.alloc(), &mut memory, k, [1, BELOW, 0]), Ok(want), "{k}");
+        assert_eq!(rt;
+            answer(rt.alloc(), &mut memory, k, [1, BELOW, 0]),
+            Ok(want),
+            "{k}"
+        );
         let some = answer(rt.alloc(), &mut memory, k, [1, BELOW, BELOW]);
         assert_eq!(rt; some, Err(HeapBad::Fault), "{k}");
     }
@@ -179,7 +202,11 @@ fn a_text_ends_in_its_block(rt: HostRuntime) -> Result<(), Fail> {
         (text + 3, Err(HeapBad::Fault)),
         (text + 4, Err(HeapBad::Fault)),
     ] {
-        assert_eq!(rt; answer(rt.alloc(), &mut memory, STRLEN, [s, 7, 7]), want, "{s}");
+        assert_eq!(rt;
+            answer(rt.alloc(), &mut memory, STRLEN, [s, 7, 7]),
+            want,
+            "{s}"
+        );
         let copied = answer(rt.alloc(), &mut memory, STRCPY, [s, s, 7]);
         assert_eq!(rt; copied.is_ok(), want.is_ok(), "{s}");
     }
@@ -199,8 +226,16 @@ fn comparisons_take_bytes_without_sign(rt: HostRuntime) -> Result<(), Fail> {
         let mut memory = Memory::new(rt.alloc(), 1 << 20);
         let a = block(&mut memory, Kind::Temp, left)?;
         let b = block(&mut memory, Kind::Temp, right)?;
-        assert_eq!(rt; answer(rt.alloc(), &mut memory, MEMCMP, [a, b, 4]), Ok(memcmp), "{left:?}");
-        assert_eq!(rt; answer(rt.alloc(), &mut memory, STRCMP, [a, b, 7]), Ok(strcmp), "{left:?}");
+        assert_eq!(rt;
+            answer(rt.alloc(), &mut memory, MEMCMP, [a, b, 4]),
+            Ok(memcmp),
+            "{left:?}"
+        );
+        assert_eq!(rt;
+            answer(rt.alloc(), &mut memory, STRCMP, [a, b, 7]),
+            Ok(strcmp),
+            "{left:?}"
+        );
     }
     Ok(())
 }
@@ -229,8 +264,15 @@ fn strcmp_asks_for_no_byte_behind_those_that_decide(rt: HostRuntime) -> Result<(
 #[test]
 fn errno_and_abort(rt: HostRuntime) -> Result<(), Fail> {
     let mut memory = Memory::new(rt.alloc(), 1 << 20);
-    assert_eq!(rt; answer(rt.alloc(), &mut memory, ERRNO_LOCATION, [1, 2, 3]), Ok(0x10000));
-    assert_eq!(rt; answer(rt.alloc(), &mut memory, ABORT, [1, 2, 3]), Err(HeapBad::Fault));
+    assert_eq!(rt;
+        answer(rt.alloc(), &mut memory, ERRNO_LOCATION, [1, 2, 3]),
+        Ok(0x10000)
+    );
+    assert_eq!(rt;
+        answer(rt.alloc(), &mut memory, ABORT, [1, 2, 3]),
+        Err(HeapBad::Fault)
+    );
+    laws::calls_keep_others();
     Ok(())
 }
 
