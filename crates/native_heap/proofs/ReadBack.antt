@@ -47,7 +47,7 @@ block_back true block addr from bytes is here whole read =
     back_if block.rights.r block.base block.size block.kind block.contents addr from bytes whole (grind (arith, nat_tests, is)) (grind (arith, nat_tests, is)) read
 block_back false block addr from bytes is here whole read = cc
 
-same_covers : (addr len at size : ℕ) (from : List ℕ) (block : Block) → covers addr len (changed (covers at size) (write_in at from) block) ≡ covers addr len block
+pub same_covers : (addr len at size : ℕ) (from : List ℕ) (block : Block) → covers addr len (changed (covers at size) (write_in at from) block) ≡ covers addr len block
 same_covers addr len at size from block =
     let keeps = changed_keeps (covers at size) (write_in at from) (writes_keep at from) in rw (keeps.base block, keeps.size block) refl
 

@@ -52,7 +52,7 @@ last_edge from end (block ∷ rest) lie =
     let more : edge_of block ≤ end = last_edge (edge_of block) end rest lie.1 in
     omega arith
 
-between : (addr from end : ℕ) (blocks : List Block) (found : Block) → LieBetween from blocks end → find (covers addr 1) blocks ≡ Some found → (from ≤ addr) × (addr < end)
+pub between : (addr from end : ℕ) (blocks : List Block) (found : Block) → LieBetween from blocks end → find (covers addr 1) blocks ≡ Some found → (from ≤ addr) × (addr < end)
 between addr from end [] found lie here = cc
 between addr from end (block ∷ rest) found lie here =
     between_if (covers addr 1 block) addr from end block rest found refl lie here (between addr (edge_of block) end rest found lie.1) (last_edge (edge_of block) end rest lie.1)
