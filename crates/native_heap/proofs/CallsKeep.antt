@@ -1,11 +1,11 @@
 -- What a call keeps, function by function.
-use Rattle.std.proofs.Common.{◌≡◌, ◌∙◌, ℕ, ◌*◌, ◌%◌, ◌^◌, ◌≢◌, nat_eq, nat_lt, Bool, true, false, cond, List, [], ◌∷◌, ◌++◌, length, replicate, Option, Some, None, refl, sym, ap}
-use Rattle.std.specs.Prelude.{min, option_map, option_and_then, slice_get, slice_index, slice_set}
+use Rattle.std.proofs.Common.{◌≡◌, ◌∙◌, ℕ, ◌*◌, ◌%◌, ◌^◌, nat_eq, nat_lt, Bool, true, false, cond, List, [], ◌∷◌, ◌++◌, length, replicate, Option, Some, None, refl, ap}
+use Rattle.std.specs.Prelude.{min, option_map, slice_get, slice_index, slice_set}
 use Rattle.std.specs.Cmp.Lexicographic.{slice_cmp}
 use Rattle.std.specs.Ordering.{nat_cmp}
 use Rattle.std.proofs.lemmas.List.{get_or-set_other, length-set}
 use Rattle.native_memory.specs.declared.kind.Kind.TheVariants.{Heap}
-use Rattle.native_memory.specs.AddressSpace.{Block, AddressSpace}
+use Rattle.native_memory.specs.AddressSpace.{AddressSpace}
 use Rattle.native_memory.specs.Ranges.{may_read, bytes_at, written_at}
 use Rattle.native_memory.specs.Placement.{ended}
 use Rattle.native_memory.specs.Sound.{IsSound}

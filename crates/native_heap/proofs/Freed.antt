@@ -1,6 +1,6 @@
 -- New blocks, and what can be freed.
-use Rattle.std.proofs.Common.{◌≡◌, ◌∙◌, ℕ, suc, ◌+◌, ◌-◌, ◌≤◌, ◌<◌, ◌≢◌, nat_eq, nat_le, Bool, true, false, not, cond, ◌&&◌, if◌then◌else◌, List, [], ◌∷◌, ◌++◌, length, take, drop, replicate, Option, Some, None, arith, refl, sym, ap}
-use Rattle.std.specs.Prelude.{All, is_some, IsSome, option_map, option_and_then}
+use Rattle.std.proofs.Common.{◌≡◌, ◌∙◌, ℕ, suc, ◌+◌, ◌-◌, ◌≤◌, ◌<◌, ◌≢◌, nat_eq, Bool, true, false, not, cond, if◌then◌else◌, List, [], ◌∷◌, ◌++◌, length, take, replicate, Option, Some, None, arith, refl, sym, ap}
+use Rattle.std.specs.Prelude.{All, option_map, option_and_then}
 use Rattle.std.specs.List.{find, filter}
 use Rattle.std.proofs.lemmas.List.{take_all, length-replicate}
 use Rattle.std.proofs.lemmas.Bool.Decides.{nat_tests}
@@ -10,7 +10,6 @@ use Rattle.native_memory.specs.Placement.{with_behind, stands_at, block_with, en
 use Rattle.native_memory.specs.Sound.{IsSound}
 use Rattle.native_memory.specs.Search.{FailsAll}
 use Rattle.native_memory.proofs.Picks.{find_fails, asks_covers, asks_base}
-use Rattle.native_heap.specs.Outcome.{◌>>=◌, answering}
 use Rattle.native_heap.specs.Allocation.{heap_placed, heap_block, given, malloc, realloc, free}
 use Rattle.native_heap.specs.Laws.{blocks_after, IsNewBlock, NewBlocksAreNew, IsNoHeapBase, OnlyHeapBlocksAreFreed}
 use Rattle.native_heap.proofs.Refusals.{some_pair}

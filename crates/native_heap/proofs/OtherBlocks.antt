@@ -1,29 +1,18 @@
 -- What a call keeps: registers but a0, and what blocks are that aren't heap blocks.
-use Rattle.std.proofs.Common.{◌≡◌, ◌∙◌, ℕ, suc, ◌+◌, ◌*◌, ◌-◌, ◌^◌, ◌≤◌, ◌<◌, ◌≢◌, nat_eq, nat_le, nat_lt, Bool, true, false, not, cond, ◌&&◌, if◌then◌else◌, List, [], ◌∷◌, ◌++◌, length, get_or, map, replicate, Option, Some, None, arith, refl, sym, ap}
-use Rattle.std.specs.Prelude.{All, min, is_some, IsSome, option_map, option_and_then, slice_get, slice_index, slice_set}
+use Rattle.std.proofs.Common.{◌≡◌, ◌∙◌, ℕ, ◌≤◌, nat_eq, Bool, true, false, not, cond, if◌then◌else◌, List, [], ◌∷◌, ◌++◌, length, get_or, map, Option, Some, None, arith, refl}
+use Rattle.std.specs.Prelude.{is_some, option_and_then}
 use Rattle.std.specs.List.{find, filter}
-use Rattle.std.proofs.lemmas.List.{get_or-set_other, length-set}
 use Rattle.std.proofs.lemmas.Bool.Decides.{nat_tests}
 use Rattle.bound_base.specs.declared.limits.Rights.{Rights}
 use Rattle.native_memory.specs.declared.kind.Kind.{Kind}
-use Rattle.native_memory.specs.declared.kind.Kind.TheVariants.{Heap}
 use Rattle.native_memory.specs.AddressSpace.{Block, AddressSpace, lowest, changed, is_heap}
-use Rattle.native_memory.specs.Ranges.{covers, may_read, may_write, bytes_at, write_in, with_written, written_at}
-use Rattle.native_memory.specs.Placement.{edge_of, with_behind, placed, stands_at, block_with, ended, up_to_16}
+use Rattle.native_memory.specs.Ranges.{covers, may_write, bytes_at, write_in, with_written, written_at}
+use Rattle.native_memory.specs.Placement.{edge_of, stands_at, block_with, ended}
 use Rattle.native_memory.specs.Sound.{LieBetween, IsSound}
 use Rattle.native_memory.specs.Search.{FailsAll}
-use Rattle.native_memory.specs.Laws.{Places, Writes}
-use Rattle.native_memory.proofs.Picks.{AsksFor, asks_base, fails_above, first_base, kept_fails}
-use Rattle.native_memory.proofs.Reached.{follows_on}
-use Rattle.native_heap.specs.declared.functions.HostFunction.{HostFunction}
-use Rattle.native_heap.specs.declared.functions.HostFunction.TheVariants.{Malloc, Calloc, Realloc, Free, Memcpy, Memmove, Memset, Memcmp, Strlen, Strcmp, Strcpy, ErrnoLocation, Abort}
-use Rattle.native_heap.specs.Outcome.{Outcome, ◌>>=◌, answering, reading}
-use Rattle.native_heap.specs.Allocation.{heap_placed, heap_block, given, moved, malloc, calloc, realloc, free}
-use Rattle.native_heap.specs.Bytes.{memmove, memset, memcmp}
-use Rattle.native_heap.specs.Texts.{text_at, strlen, strcpy, strcmp}
-use Rattle.native_heap.specs.HostFunctions.{host_functions, outcome, called}
-use Rattle.native_heap.specs.Laws.{outline, other_blocks, KeepsOthers, CallsKeepOthers}
-use Rattle.native_heap.proofs.Refusals.{some_pair, answered_new}
+use Rattle.native_memory.proofs.Picks.{asks_base, fails_above, first_base, kept_fails}
+use Rattle.native_heap.specs.Allocation.{heap_placed, heap_block}
+use Rattle.native_heap.specs.Laws.{outline, other_blocks}
 use Rattle.native_heap.proofs.Found.{find_appended, find_changed}
 use Rattle.native_heap.proofs.Moved.{heap_made, heap_placed_is}
 

@@ -1,5 +1,5 @@
 -- Laws of the host functions.
-use Rattle.std.specs.Prelude.{◌≡◌, ◌≢◌, ℕ, false, not, List, length, map, replicate, slice_index, Option, Some, None, IsSome, All, option_map, if◌then◌else◌}
+use Rattle.std.specs.Prelude.{◌≡◌, ◌≢◌, ℕ, false, not, List, length, map, replicate, slice_index, Option, Some, None, IsSome, All, option_map}
 use Rattle.std.specs.List.{filter}
 use Rattle.bound_base.specs.declared.limits.Rights.{Rights}
 use Rattle.native_memory.specs.declared.kind.Kind.{Kind}
