@@ -334,10 +334,13 @@ static void reads(uint64_t blocks, uint64_t reads) {
         uint8_t byte = number % 256;
         if (!write_bytes(&memory, place(&memory, 1, (struct rights){.r = true, .w = true}), &byte, 1)) fail("a write faults");
     }
+    uint64_t stride = 77777 % blocks, number = 0;
     for (uint64_t turn = 0; turn < reads; turn++) {
         uint8_t byte;
-        if (!read_bytes(&memory, first + 32 * (turn * 77777 % blocks), &byte, 1)) fail("a read faults");
+        if (!read_bytes(&memory, first + 32 * number, &byte, 1)) fail("a read faults");
         sum += byte;
+        number += stride;
+        if (number >= blocks) number -= blocks;
     }
     printf("%llu blocks, %llu reads, sum %llu\n", (unsigned long long)blocks, (unsigned long long)reads, (unsigned long long)sum);
 }

@@ -1,17 +1,15 @@
 //! Many blocks, placed and ended.
 
-use anyhow::ensure;
-use bound_base::Rights;
+use crate::rights::DATA;
 use native_memory::{Kind, Memory};
 use std::alloc::Global;
 
-const DATA: Rights = Rights {
-    r: true,
-    w: true,
-    x: false,
-};
-
 const BLOCKS: u64 = 200_000;
+
+/// Those of Knuth's generator of numbers by chance.
+const MULTIPLIER: u64 = 6_364_136_223_846_793_005;
+
+const INCREMENT: u64 = 1_442_695_040_888_963_407;
 
 /// The order in which blocks end, by their age.
 #[derive(Clone, Copy)]
@@ -19,6 +17,18 @@ pub enum Order {
     OldestFirst,
     NewestFirst,
     Shuffled,
+}
+
+impl Order {
+    /// The order that a word names.
+    pub fn named(word: &str) -> Option<Order> {
+        match word {
+            "age" => Some(Order::OldestFirst),
+            "reverse" => Some(Order::NewestFirst),
+            "random" => Some(Order::Shuffled),
+            _ => None,
+        }
+    }
 }
 
 /// Prints how many blocks were ended, and how many bytes live then.
@@ -48,13 +58,17 @@ fn placed(alloc: Global, memory: &mut Memory) -> anyhow::Result<Vec<u64>> {
 fn shuffle(bases: &mut [u64]) {
     let mut state = 1u64;
     for last in (1..bases.len()).rev() {
-        state = state
-            .wrapping_mul(6_364_136_223_846_793_005)
-            .wrapping_add(1_442_695_040_888_963_407);
+        state = state.wrapping_mul(MULTIPLIER).wrapping_add(INCREMENT);
         bases.swap(last, (state >> 33) as usize % (last + 1));
     }
 }
 
-fn count_of_ended(memory: &mut Memory, bases: &[u64]) -> u64 {
-    bases.iter().filter(|base| memory.end(**base)).count() as u64
+fn count_of_ended(memory: &mut Memory, bases: &[u64]) -> usize {
+    let mut ended = 0;
+    for base in bases {
+        if memory.end(*base) {
+            ended += 1;
+        }
+    }
+    ended
 }

@@ -5,6 +5,7 @@
 mod blocks;
 mod instruction_words;
 mod reads;
+mod rights;
 mod steps;
 
 use anyhow::{Context, bail};
@@ -31,10 +32,5 @@ fn number(word: Option<String>) -> anyhow::Result<u64> {
 
 fn order(word: Option<String>) -> anyhow::Result<Order> {
     let word = word.context("an order is missing")?;
-    match word.as_str() {
-        "age" => Ok(Order::OldestFirst),
-        "reverse" => Ok(Order::NewestFirst),
-        "random" => Ok(Order::Shuffled),
-        _ => bail!("no such order"),
-    }
+    Order::named(word.as_str()).context("no such order")
 }

@@ -2,26 +2,20 @@
 
 ghost use Rattle.std.specs.Prelude.{◌<◌, ◌≤◌};
 
+use crate::rights::DATA;
 use anyhow::ensure;
-use bound_base::Rights;
 use native_memory::{Kind, Memory};
 use std::alloc::Global;
-
-const DATA: Rights = Rights {
-    r: true,
-    w: true,
-    x: false,
-};
 
 /// How many blocks on the next read is: a prime, so that all are read in turn.
 const STRIDE: u64 = 77_777;
 
-/// The most blocks and the most reads.
+/// The most blocks.
 const MOST: u64 = 1_000_000_000;
 
 /// Prints the sum of the bytes that so many reads find among so many blocks, which hold 0, 1 .. 255, 0, 1 ..
 pub fn print(rt: &(impl Print + AllocGlobal), blocks: u64, reads: u64) -> anyhow::Result<()> {
-    ensure!(0 < blocks && blocks <= MOST && reads <= MOST, "too many");
+    ensure!(0 < blocks && blocks <= MOST, "too few or too many blocks");
     let mut memory = Memory::new(rt.alloc(), blocks);
     let first = memory.next();
     place(&mut memory, blocks)?;
@@ -42,14 +36,19 @@ fn place(memory: &mut Memory, blocks: u64) -> anyhow::Result<()> {
 fn sum_of_reads(memory: &Memory, first: u64, blocks: u64, reads: u64) -> anyhow::Result<u64>
     requires some { 0 < blocks }
     requires few { blocks ≤ MOST }
-    requires reads { reads ≤ MOST }
     requires first { first ≤ MOST }
 {
+    let stride = STRIDE % blocks;
+    let mut number = 0;
     let mut sum = 0u64;
-    for turn in 0..reads {
+    for _turn in 0..reads {
         let mut byte = [0];
-        memory.read(first + 32 * (turn * STRIDE % blocks), &mut byte)?;
+        memory.read(first + 32 * number, &mut byte)?;
         sum = sum.wrapping_add(u64::from(byte[0]));
+        number += stride;
+        if number >= blocks {
+            number -= blocks;
+        }
     }
     Ok(sum)
 }

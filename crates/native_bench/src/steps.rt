@@ -1,138 +1,66 @@
-//! Ten million steps of a loop of ten instructions, which adds to the words of a table on the stack and hashes them.
+//! Ten million steps of the machine, in a loop of ten instructions.
 
-use anyhow::{Context, ensure};
-use bound_base::Rights;
+use crate::rights::{CODE, DATA};
+use anyhow::ensure;
 use native_memory::{Kind, Memory};
-use rv_decode::{Instr, encode};
 use rv_machine::{Regs, Step, step};
 use std::alloc::Global;
 
 const STEPS: u64 = 10_000_000;
 
-/// How often the loop runs, which is until the last step.
+/// How often the loop runs: until the last step.
 const TURNS: u64 = 1_000_000;
 
-/// What the hash is multiplied by.
-const FACTOR: u64 = 0x0100_0000_01B3;
+/// What the hash is multiplied by, that of FNV-1a.
+const FACTOR: u64 = 0x100_0000_01B3;
 
 const STACK: u64 = 1 << 20;
 
-/// The registers, by the names of the calling convention.
-const SP: u8 = 2;
+/// Numbers of registers, by their names in the calling convention.
+const SP: usize = 2;
 
-const T0: u8 = 5;
+const A0: usize = 10;
 
-const T1: u8 = 6;
+const A2: usize = 12;
 
-const A0: u8 = 10;
+const A3: usize = 13;
 
-const A1: u8 = 11;
+/// a1 counts from 0 to a2. Each turn adds a1 to one of 64 words at sp, in turn, and mixes the sum into a0.
+const LOOP: [u32; 10] = [
+    0x03F5_F293, // andi t0, a1, 63
+    0x0032_9293, // slli t0, t0, 3
+    0x0022_82B3, // add t0, t0, sp
+    0x0002_B303, // ld t1, 0(t0)
+    0x00B3_0333, // add t1, t1, a1
+    0x0062_B023, // sd t1, 0(t0)
+    0x0065_4533, // xor a0, a0, t1
+    0x02D5_0533, // mul a0, a0, a3
+    0x0015_8593, // addi a1, a1, 1
+    0xFCC5_9EE3, // bne a1, a2, -36
+];
 
-const A2: u8 = 12;
-
-const A3: u8 = 13;
-
+/// Prints what stands in a0 after all steps.
 pub fn print(rt: &(impl Print + AllocGlobal)) -> anyhow::Result<()> {
-    let hash = hash_of_steps(rt.alloc())?;
-    println!(rt; "{STEPS} steps, a0 {hash:016x}")?;
-    Ok(())
-}
-
-/// What stands in a0 after all steps.
-fn hash_of_steps(alloc: Global) -> anyhow::Result<u64> {
-    let mut memory = Memory::new(alloc, 1 << 30);
-    let mut regs = start(alloc, &mut memory)?;
+    let mut memory = Memory::new(rt.alloc(), 1 << 30);
+    let mut regs = start(rt.alloc(), &mut memory)?;
     for _ in 0..STEPS {
         ensure!(step(&mut regs, &mut memory) == Step::Went, "a step faults");
     }
-    Ok(regs.x[usize::from(A0)])
+    println!(rt; "{STEPS} steps, a0 {:016x}", regs.x[A0])?;
+    Ok(())
 }
 
 /// Places the loop and a stack, and gives the registers before the first step.
 fn start(alloc: Global, memory: &mut Memory) -> anyhow::Result<Regs> {
-    let code = code(alloc)?;
-    let rights = Rights {
-        r: true,
-        w: false,
-        x: true,
-    };
-    let pc = memory.edge();
-    memory.place_at(pc, code.as_slice(), code.len() as u64, rights)?;
-    let rights = Rights {
-        r: true,
-        w: true,
-        x: false,
-    };
-    let stack = memory.place(STACK, rights, Kind::Stack)?;
-    let mut x = [0; 32];
-    x[usize::from(SP)] = stack;
-    x[usize::from(A2)] = TURNS;
-    x[usize::from(A3)] = FACTOR;
-    Ok(Regs { pc, x })
-}
-
-/// The words of the loop.
-fn code(alloc: Global) -> anyhow::Result<Vec<u8>> {
     let mut code = Vec::new(alloc);
-    for instr in instructions() {
-        let word = encode(&instr).context("an instruction has no word")?;
+    for word in &LOOP {
         code.extend_from_slice(&word.to_le_bytes())?;
     }
-    Ok(code)
-}
-
-/// a1 counts from 0 to a2. Each turn adds a1 to the word at (a1 mod 64) of the table, and mixes the sum into a0.
-fn instructions() -> [Instr; 10] {
-    [
-        Instr::Andi {
-            rd: T0,
-            rs1: A1,
-            imm: 63,
-        },
-        Instr::Slli {
-            rd: T0,
-            rs1: T0,
-            shamt: 3,
-        },
-        Instr::Add {
-            rd: T0,
-            rs1: T0,
-            rs2: SP,
-        },
-        Instr::Ld {
-            rd: T1,
-            rs1: T0,
-            imm: 0,
-        },
-        Instr::Add {
-            rd: T1,
-            rs1: T1,
-            rs2: A1,
-        },
-        Instr::Sd {
-            rs1: T0,
-            rs2: T1,
-            imm: 0,
-        },
-        Instr::Xor {
-            rd: A0,
-            rs1: A0,
-            rs2: T1,
-        },
-        Instr::Mul {
-            rd: A0,
-            rs1: A0,
-            rs2: A3,
-        },
-        Instr::Addi {
-            rd: A1,
-            rs1: A1,
-            imm: 1,
-        },
-        Instr::Bne {
-            rs1: A1,
-            rs2: A2,
-            offset: -36,
-        },
-    ]
+    let pc = memory.edge();
+    memory.place_at(pc, code.as_slice(), code.len() as u64, CODE)?;
+    let mut x = [0; 32];
+    x[SP] = memory.place(STACK, DATA, Kind::Stack)?;
+    x[A2] = TURNS;
+    x[A3] = FACTOR;
+    Ok(Regs { pc, x })
 }

@@ -1,0 +1,15 @@
+//! What blocks may be used for.
+
+use bound_base::Rights;
+
+pub const CODE: Rights = Rights {
+    r: true,
+    w: false,
+    x: true,
+};
+
+pub const DATA: Rights = Rights {
+    r: true,
+    w: true,
+    x: false,
+};
