@@ -17,6 +17,9 @@ use crate::fields::{broken, number32};
 use crate::loads::{range_from, table_place};
 use crate::part::{ElfBad, ElfPart};
 
+/// What a word leaves by 2 that ends a chain of the GNU linker's table.
+const CHAIN_END: u32 = 1;
+
 /// How many symbols there are: by `DT_HASH`, else by `DT_GNU_HASH`, else none.
 pub fn symbol_count(bytes: &[u8], loads: &[Load], table: &[Entry]) -> Result<u64, ElfBad>
     requires { AreSound (length bytes.now) loads.now }
@@ -121,7 +124,7 @@ fn chain_length(chain: &[u8]) -> Option<usize>
     ensures within { IfSome result (λ n. 4 * n ≤ length chain.now) }
 {
     for k in 0..chain.len() / 4 {
-        if number32(chain, 4 * k) % 2 == 1 {
+        if number32(chain, 4 * k) % 2 == CHAIN_END {
             return Some(k + 1);
         }
     }
