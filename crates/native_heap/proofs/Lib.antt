@@ -8,3 +8,4 @@ pub mod TextsCopied
 pub mod Freed
 pub mod OtherBlocks
 pub mod CallsKeep
+pub mod Names

@@ -1,5 +1,6 @@
 -- The host functions: their numbers and names, and what a call of one comes to.
-use Rattle.std.specs.Prelude.{ℕ, ◌∷◌, [], List, map, codes, slice_get, slice_index, slice_set, Option, Some, None, option_map}
+use Rattle.std.specs.Prelude.{ℕ, Bool, ◌∷◌, [], List, map, codes, slice_get, slice_index, slice_set, Option, Some, None, option_map}
+use Rattle.std.specs.Str.{bytes_eq}
 use Rattle.native_memory.specs.AddressSpace.{AddressSpace}
 use Rattle.native_heap.specs.declared.functions.HostFunction.{HostFunction}
 use Rattle.native_heap.specs.declared.functions.HostFunction.TheVariants.{Malloc, Calloc, Realloc, Free, Memcpy, Memmove, Memset, Memcmp, Strlen, Strcmp, Strcpy, ErrnoLocation, Abort}
@@ -32,6 +33,10 @@ name_of Abort = codes "abort"
 -- the names in order of the numbers
 abbrev pub host_names : List (List ℕ)
 host_names = map name_of host_functions
+
+-- the name is this one
+abbrev pub is_name : List ℕ → List ℕ → Bool
+is_name name known = bytes_eq known name
 
 -- what a host function comes to for its arguments, where `errno` is the address of the number of the last error
 abbrev pub outcome : HostFunction → ℕ → ℕ → ℕ → AddressSpace → ℕ → Outcome

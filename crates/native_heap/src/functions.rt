@@ -1,7 +1,7 @@
 //! The host functions by their numbers and names.
 
-ghost use Rattle.std.specs.Prelude.{◌≡◌, slice_get};
-ghost use Rattle.native_heap.specs.HostFunctions.{host_functions, name_of};
+ghost use Rattle.std.specs.Prelude.{◌≡◌, slice_get, slice_index_or, position, []};
+ghost use Rattle.native_heap.specs.HostFunctions.{host_functions, host_names, name_of, is_name};
 
 /// A function of the C library that native code may call (ISO/IEC 9899).
 #[derive(Clone, Copy, Debug, PartialEq, Eq)]
@@ -54,6 +54,28 @@ pub fn host_function(k: u8) -> Option<HostFunction>
         12 => HostFunction::Abort,
         _ => return None,
     })
+}
+
+/// The number of the host function with this name in C, None where none has it.
+pub fn host_number(name: &[u8]) -> Option<u8>
+    ensures { result ≡ position (is_name name.now) host_names }
+{
+    for k in 0..13 {
+        if name_at(k) == name {
+            return Some(k);
+        }
+    }
+    None
+}
+
+/// The name at a place in order of the numbers.
+fn name_at(k: u8) -> &'static [u8]
+    ensures { result.now ≡ slice_index_or host_names k [] }
+{
+    match host_function(k) {
+        Some(function) => function_name(function),
+        None => b"",
+    }
 }
 
 /// The name of a host function in C, without a zero at its end.

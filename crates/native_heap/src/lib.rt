@@ -10,7 +10,7 @@ mod refusal;
 mod texts;
 
 pub use calls::{Regs0, call};
-pub use functions::{HostFunction, function_name, host_function};
+pub use functions::{HostFunction, function_name, host_function, host_number};
 pub use refusal::HeapBad;
 
 #[cfg(test)]

@@ -2,7 +2,7 @@
 
 ghost use Rattle.std.specs.Prelude.{◌≡◌, ◌<◌, ◌≤◌, ◌^◌, length};
 
-use crate::{HeapBad, Regs0, call, function_name, host_function, laws};
+use crate::{HeapBad, Regs0, call, function_name, host_function, host_number, laws};
 use bound_base::Rights;
 use native_memory::{Kind, Memory};
 use std::alloc::Global;
@@ -36,6 +36,11 @@ const ABORT: u8 = 12;
 
 /// -1 as a word.
 const BELOW: u64 = 0xFFFF_FFFF_FFFF_FFFF;
+
+/// Where the first block stands, and the second where the first has 1 to 16 bytes.
+const FIRST: u64 = 0x1_0000;
+
+const SECOND: u64 = 0x1_0020;
 
 const DATA: Rights = Rights {
     r: true,
@@ -97,13 +102,14 @@ fn only_bases_of_live_heap_blocks_are_freed(rt: HostRuntime) -> Result<(), Fail>
     let mut memory = Memory::new(rt.alloc(), 1 << 20);
     let heap = block(&mut memory, Kind::Heap, b"heap")?;
     let temp = block(&mut memory, Kind::Temp, b"temp")?;
+    assert_eq!(rt; (heap, temp), (FIRST, SECOND));
     for (p, want) in [
-        (heap + 1, Err(HeapBad::Fault)),
-        (temp, Err(HeapBad::Fault)),
+        (FIRST + 1, Err(HeapBad::Fault)),
+        (SECOND, Err(HeapBad::Fault)),
         (BELOW, Err(HeapBad::Fault)),
         (0, Ok(0)),
-        (heap, Ok(heap)),
-        (heap, Err(HeapBad::Fault)),
+        (FIRST, Ok(FIRST)),
+        (FIRST, Err(HeapBad::Fault)),
     ] {
         if want != Ok(p) {
             let moved = answer(rt.alloc(), &mut memory, REALLOC, [p, 1, 7]);
@@ -121,7 +127,7 @@ fn realloc_keeps_the_front(rt: HostRuntime) -> Result<(), Fail> {
     let mut memory = Memory::new(rt.alloc(), 20);
     let first = block(&mut memory, Kind::Heap, b"abcd")?;
     let grown = answer(rt.alloc(), &mut memory, REALLOC, [first, 6, 7])?;
-    assert_eq!(rt; (grown, memory.live()), (first + 32, 6));
+    assert_eq!(rt; (first, grown, memory.live()), (FIRST, SECOND, 6));
     assert_eq!(rt; memory.contents(grown, 6), Some(&b"abcd\0\0"[..]));
     let shrunk = answer(rt.alloc(), &mut memory, REALLOC, [grown, 3, 7])?;
     assert_eq!(rt; memory.contents(shrunk, 3), Some(&b"abc"[..]));
@@ -178,29 +184,29 @@ fn no_bytes_may_be_anywhere(rt: HostRuntime) -> Result<(), Fail> {
 fn ranges_overlap_both_ways(rt: HostRuntime) -> Result<(), Fail> {
     for k in [MEMCPY, MEMMOVE] {
         let mut memory = Memory::new(rt.alloc(), 1 << 20);
-        let base = block(&mut memory, Kind::Temp, b"01234567")?;
-        answer(rt.alloc(), &mut memory, k, [base + 2, base, 5])?;
-        assert_eq!(rt; memory.contents(base, 8), Some(&b"01012347"[..]), "{k}");
-        answer(rt.alloc(), &mut memory, k, [base, base + 2, 5])?;
-        assert_eq!(rt; memory.contents(base, 8), Some(&b"01234347"[..]), "{k}");
+        block(&mut memory, Kind::Temp, b"01234567")?;
+        answer(rt.alloc(), &mut memory, k, [FIRST + 2, FIRST, 5])?;
+        assert_eq!(rt; memory.contents(FIRST, 8), Some(&b"01012347"[..]), "{k}");
+        answer(rt.alloc(), &mut memory, k, [FIRST, FIRST + 2, 5])?;
+        assert_eq!(rt; memory.contents(FIRST, 8), Some(&b"01234347"[..]), "{k}");
     }
     let mut memory = Memory::new(rt.alloc(), 1 << 20);
-    let base = block(&mut memory, Kind::Temp, b"abc\0....")?;
-    answer(rt.alloc(), &mut memory, STRCPY, [base + 2, base, 7])?;
-    assert_eq!(rt; memory.contents(base, 8), Some(&b"ababc\0.."[..]));
+    block(&mut memory, Kind::Temp, b"abc\0....")?;
+    answer(rt.alloc(), &mut memory, STRCPY, [FIRST + 2, FIRST, 7])?;
+    assert_eq!(rt; memory.contents(FIRST, 8), Some(&b"ababc\0.."[..]));
     Ok(())
 }
 
 #[test]
 fn a_text_ends_in_its_block(rt: HostRuntime) -> Result<(), Fail> {
     let mut memory = Memory::new(rt.alloc(), 1 << 20);
-    let text = block(&mut memory, Kind::Temp, b"ab\0c")?;
+    block(&mut memory, Kind::Temp, b"ab\0c")?;
     for (s, want) in [
-        (text, Ok(2)),
-        (text + 1, Ok(1)),
-        (text + 2, Ok(0)),
-        (text + 3, Err(HeapBad::Fault)),
-        (text + 4, Err(HeapBad::Fault)),
+        (FIRST, Ok(2)),
+        (FIRST + 1, Ok(1)),
+        (FIRST + 2, Ok(0)),
+        (FIRST + 3, Err(HeapBad::Fault)),
+        (FIRST + 4, Err(HeapBad::Fault)),
     ] {
         assert_eq!(rt;
             answer(rt.alloc(), &mut memory, STRLEN, [s, 7, 7]),
@@ -243,20 +249,21 @@ fn comparisons_take_bytes_without_sign(rt: HostRuntime) -> Result<(), Fail> {
 #[test]
 fn strcmp_asks_for_no_byte_behind_those_that_decide(rt: HostRuntime) -> Result<(), Fail> {
     let mut memory = Memory::new(rt.alloc(), 1 << 20);
-    memory.place_at(0x1_0000, b"ab", 2, DATA)?;
-    memory.place_at(0x1_0002, b"c\0", 2, DATA)?;
+    for bytes in [b"ab", b"c\0"] {
+        memory.place_at(memory.edge(), bytes, 2, DATA)?;
+    }
     let a = block(&mut memory, Kind::Temp, b"abd")?;
     let b = block(&mut memory, Kind::Temp, b"abc\0")?;
     for (left, right, want) in [
-        (0x1_0000, a, Ok(BELOW)),
-        (0x1_0000, b, Ok(0)),
+        (FIRST, a, Ok(BELOW)),
+        (FIRST, b, Ok(0)),
         (a, a, Err(HeapBad::Fault)),
-        (0x1_0000, a + 3, Err(HeapBad::Fault)),
+        (FIRST, SECOND + 3, Err(HeapBad::Fault)),
     ] {
         let got = answer(rt.alloc(), &mut memory, STRCMP, [left, right, 7]);
         assert_eq!(rt; got, want, "{left} {right}");
     }
-    let len = answer(rt.alloc(), &mut memory, STRLEN, [0x1_0000, 7, 7]);
+    let len = answer(rt.alloc(), &mut memory, STRLEN, [FIRST, 7, 7]);
     assert_eq!(rt; len, Err(HeapBad::Fault));
     Ok(())
 }
@@ -296,6 +303,11 @@ fn numbers_have_names(rt: HostRuntime) -> Result<(), Fail> {
         (255, None),
     ] {
         assert_eq!(rt; host_function(k).map(function_name), name, "{k}");
+        if let Some(name) = name {
+            assert_eq!(rt; host_number(name), Some(k), "{k}");
+        }
     }
+    assert_eq!(rt; host_number(b"malloc\0"), None);
+    assert_eq!(rt; host_number(b""), None);
     Ok(())
 }
