@@ -1,0 +1,7 @@
+pub mod Steps
+pub mod Modules
+pub mod Loading
+pub mod Relocating
+pub mod Binding
+pub mod Refusals
+pub mod Exports

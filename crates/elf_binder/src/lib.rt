@@ -1,0 +1,12 @@
+//! Binds libraries: places them in memory, finds names among them, and relocates them (System V gABI, 'Program Loading and
+//! Dynamic Linking'; RISC-V psABI).
+#![tactic(auto)]
+
+mod bound;
+mod module;
+mod refusal;
+mod relocation;
+
+pub use bound::Bound;
+pub use module::{Export, Module};
+pub use refusal::BindBad;
