@@ -3,9 +3,11 @@
 #![tactic(auto)]
 
 mod bound;
+mod loading;
 mod module;
 mod refusal;
 mod relocation;
+mod source;
 
 pub use bound::Bound;
 pub use module::{Export, Module};

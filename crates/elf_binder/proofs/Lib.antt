@@ -1,0 +1,3 @@
+pub mod StepByStep
+pub mod SourceLists
+pub mod Placing
