@@ -3,12 +3,18 @@
 #![tactic(auto)]
 
 mod bound;
+mod host_names;
+mod index;
+mod library_names;
 mod loading;
 mod module;
 mod refusal;
 mod relocation;
+mod scope;
 mod source;
 
 pub use bound::Bound;
-pub use module::{Export, Module};
+pub use host_names::host_address;
+pub use module::{Export, Module, is_defined};
 pub use refusal::BindBad;
+pub use scope::address_of;

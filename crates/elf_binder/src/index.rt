@@ -1,0 +1,76 @@
+//! Places of exports in order of their names, by which a name is found in few steps.
+
+ghost use Rattle.std.specs.Prelude.{◌≡◌, find, slice_get, option_map, option_and_then, IfOk};
+ghost use Rattle.std.specs.Cmp.Lexicographic.{slice_cmp};
+ghost use Rattle.std.specs.List.Sorted.{IsSortedBy};
+ghost use Rattle.std.specs.Ordering.{is_lt, nat_cmp};
+ghost use Rattle.elf_binder.specs.Index.{IsIndex, name_at as name_of_place, precedes, is_named};
+
+use crate::module::Export;
+use bound_base::Items;
+use std::alloc::{AllocError, Global};
+use std::cmp::Ordering;
+
+/// The places of the exports, or just of those that may be called, in order of their names; those of one name in the order of
+/// the exports.
+pub fn index_of(
+    alloc: Global,
+    exports: &Items<Export>,
+    only_callable: bool,
+) -> Result<Items<usize>, AllocError>
+    ensures { IfOk result (λ places. IsIndex only_callable exports.now places) }
+{
+    let mut places = wanted(alloc, exports, only_callable)?;
+    places.sort_by(|a, b| compare_names(exports, *a, *b))?;
+    Ok(Items::from_vec(places))
+}
+
+/// The address of the first export of a name among those of an index, found by bisection.
+pub fn address_by(exports: &Items<Export>, places: &Items<usize>, name: &[u8]) -> Option<u64>
+    requires { IsSortedBy (precedes exports.now) places.now }
+    ensures { result ≡ option_map (λ export. export.address) (option_and_then (slice_get exports.now) (find (is_named exports.now name.now) places.now)) }
+{
+    let first = places
+        .as_slice()
+        .partition_point(|place| is_below(exports, *place, name));
+    let export = exports.get(*places.get(first)?)?;
+    (export.name.as_slice() == name).then_some(export.address)
+}
+
+/// The places of the exports that are wanted, in their order.
+fn wanted(
+    alloc: Global,
+    exports: &Items<Export>,
+    only_callable: bool,
+) -> Result<Vec<usize>, AllocError> {
+    let mut places = Vec::new(alloc);
+    for (place, export) in exports.as_slice().iter().enumerate() {
+        if !only_callable || export.callable {
+            places.push(place)?;
+        }
+    }
+    Ok(places)
+}
+
+/// The name of the export at a place, no bytes where there is none.
+fn name_at(exports: &Items<Export>, place: usize) -> &[u8]
+    ensures { result.now ≡ name_of_place exports.now place }
+{
+    match exports.get(place) {
+        Some(export) => export.name.as_slice(),
+        None => &[],
+    }
+}
+
+fn compare_names(exports: &Items<Export>, a: usize, b: usize) -> Ordering
+    ensures { result ≡ slice_cmp nat_cmp (name_of_place exports.now a) (name_of_place exports.now b) }
+{
+    name_at(exports, a).cmp(&name_at(exports, b))
+}
+
+/// The name of the export at a place comes before a name.
+fn is_below(exports: &Items<Export>, place: usize, name: &[u8]) -> bool
+    ensures { result ≡ is_lt (slice_cmp nat_cmp (name_of_place exports.now place) name.now) }
+{
+    name_at(exports, place).cmp(&name).is_lt()
+}
