@@ -1,3 +1,4 @@
 pub mod StepByStep
 pub mod SourceLists
 pub mod Placing
+pub mod InFile
