@@ -14,7 +14,7 @@ use Rattle.byte_view.specs.ElfDynamic.{Entry, dynamic_header, dynamic_table, ent
 use Rattle.byte_view.specs.ElfSymbols.{symbols, table_place}
 use Rattle.byte_view.specs.ElfRelocations.{Relocation, relocation_at, relocation_table, relocations}
 use Rattle.byte_view.specs.Library.{Library, InitArray, init_array_of, library}
-use Rattle.byte_view.specs.ElfLaws.{LoadsLieApart, LoadsOfLibrariesLieApart}
+use Rattle.byte_view.proofs.Loads.{loads_of_libraries_lie_apart}
 use Rattle.byte_view.proofs.Reading.{bind_then, same_read, must_ok, ok_or_ok}
 
 -- a fact of each element
@@ -39,6 +39,10 @@ each_taken : {A : Type 0} (P : A → Type 0) (n : ℕ) (xs : List A) → Each P 
 each_taken P zero xs all = tt
 each_taken P (suc n) [] all = tt
 each_taken P (suc n) (x ∷ xs) all = (all.0, each_taken P n xs all.1)
+
+each_contained : {A : Type 0} (P : A → Type 0) (xs : List A) → ((x : A) → Contains xs x → P x) → Each P xs
+each_contained P [] all = tt
+each_contained P (x ∷ xs) all = (all x (0, omega arith, refl), each_contained P xs (λ y c. all y (suc c.0, omega (arith, c.1), c.2)))
 
 found_if : {A : Type 0} (P : A → Type 0) (passes : Bool) (x y : A) (rest : Option A) → P x → cond passes (Some x) rest ≡ Some y → (rest ≡ Some y → P y) → P y
 found_if P true x y rest here is more = subst P (cc) here
@@ -134,8 +138,11 @@ place_in_file : (bytes : List ℕ) (all : List Load) (addr len at : ℕ) → Eac
 unfolding file_place
 place_in_file bytes all addr len at whole e = found_place bytes all addr len at (find (holds_range addr len) all) whole refl e
 
+abbrev table_at : Bool → List Load → Entry → ℕ → Result ℕ Broken
+table_at empty all entry size = if empty then Ok 0 else ok_or (file_place all entry.value size) (parts.relocs, entry.at + 8)
+
 table_if : (empty : Bool) (bytes : List ℕ) (all : List Load) (entry : Entry) (size at : ℕ) → Each (λ load. load.file_at + load.file_size ≤ length bytes) all → (size == 0) ≡ empty
-    → (if empty then Ok 0 else ok_or (file_place all entry.value size) (parts.relocs, entry.at + 8)) ≡ Ok at → (size ≡ 0) ⊎ (at + size ≤ length bytes)
+    → table_at empty all entry size ≡ Ok at → (size ≡ 0) ⊎ (at + size ≤ length bytes)
 table_if true bytes all entry size at whole is e = inl (eqb-true size 0 is)
 table_if false bytes all entry size at whole is e = inr (place_in_file bytes all entry.value size at whole (ok_or_ok (file_place all entry.value size) (parts.relocs, entry.at + 8) at e))
 
@@ -209,6 +216,9 @@ pub record StandsIn (bytes : List ℕ) (l : Library) : Type 0 where
   pub relocations : Each (λ r. r.at + 24 ≤ length bytes) l.relocations
   pub array : ArrayIn (length bytes) l.init_array
 
+loads_whole : (bytes : List ℕ) (l : Library) → library bytes ≡ Ok l → Each (λ load. load.file_at + load.file_size ≤ length bytes) l.loads
+loads_whole bytes l e = each_contained (λ load. load.file_at + load.file_size ≤ length bytes) l.loads (loads_of_libraries_lie_apart bytes l e).in_file
+
 pub stands_in : (bytes : List ℕ) (l : Library) → library bytes ≡ Ok l → StandsIn bytes l
 unfolding library
 stands_in bytes l e =
@@ -222,7 +232,7 @@ stands_in bytes l e =
     bind_then (relocations bytes all table) _ l e7 (λ some some_read e8.
     let same = same_read _ l e8 in
     let loads_are : all ≡ l.loads = ap (λ (l : Library). l.loads) same in
-    let whole : Each (λ load. load.file_at + load.file_size ≤ length bytes) all = ? in
+    let whole : Each (λ load. load.file_at + load.file_size ≤ length bytes) all = rw loads_are (loads_whole bytes l e) in
     subst (StandsIn bytes) same (record {
       loads = loads_in_file bytes headers all headers_read loads_read;
       relocations = relocations_in_file bytes all table some whole some_read;

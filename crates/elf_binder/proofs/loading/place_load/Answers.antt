@@ -3,7 +3,6 @@ use Rattle.std.proofs.lemmas.Grind.{common_steps}
 use Rattle.elf_reader.specs.Elf.{load_of}
 use Rattle.elf_binder.specs.Loading.{place_load}
 use Rattle.elf_binder.specs.Sources.{source_of}
-use Rattle.elf_binder.proofs.InFile.{each_at}
 use Rattle.elf_binder.proofs.Placing.{placed, no_room}
 use Rattle.elf_binder.proofs.loading.place_load.Goals as goal
 
