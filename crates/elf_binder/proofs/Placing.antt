@@ -7,8 +7,8 @@ use Rattle.byte_view.specs.ElfLoads.{Load, end_of}
 use Rattle.byte_view.specs.ElfParts as parts
 use Rattle.native_memory.specs.AddressSpace.{Block, AddressSpace}
 use Rattle.native_memory.specs.Placement.{placed_at}
-use Rattle.elf_binder.specs.Steps.{Unbound}
-use Rattle.elf_binder.specs.Loading.{Source, rights_of, bytes_of, place_load}
+use Rattle.elf_binder.specs.Steps.{Unbound, ◌>>=◌}
+use Rattle.elf_binder.specs.Loading.{Source, Placed, rights_of, bytes_of, base_for, place_load, place_loads, place_library}
 
 -- a load of some bytes is placed, or there is no room for it
 abbrev pub placing : Source → ℕ → AddressSpace → Load → Option AddressSpace
@@ -46,3 +46,15 @@ pub edge_after : (source : Source) (base : ℕ) (space : AddressSpace) (load : L
 unfolding place_load placed_at
 edge_after source base space load new behind e =
     omega (arith, edge_if (nat_eq load.size 0) _ space load.size (base + load.vaddr + max load.size 1) _ _ _ new (base + load.vaddr) refl refl behind e)
+
+-- ---- a library
+
+pub library_placed : (bases : List ℕ) (space : AddressSpace) (source : Source) (base : ℕ) (new : AddressSpace) (more : List ℕ) → base ≡ base_for space → place_loads source base space ≡ Ok new → more ≡ bases ++ base ∷ []
+    → place_library (record { bases = bases; space = space }) source ≡ Ok (record { bases = more; space = new })
+unfolding place_library
+library_placed bases space source base new more is placed pushed = rw (← is, placed, pushed) refl
+
+pub library_fails : (bases : List ℕ) (space : AddressSpace) (source : Source) (base : ℕ) (d : Unbound) → base ≡ base_for space → place_loads source base space ≡ Err d
+    → place_library (record { bases = bases; space = space }) source ≡ Err d
+unfolding place_library
+library_fails bases space source base d is failed = rw (← is, failed) refl
