@@ -9,9 +9,11 @@ mod library_names;
 mod loading;
 mod module;
 mod refusal;
+mod relocating;
 mod relocation;
 mod scope;
 mod source;
+mod symbol_values;
 
 pub use bound::Bound;
 pub use host_names::host_address;
