@@ -4,3 +4,6 @@ pub mod Placing
 pub mod InFile
 pub mod LoadPlaces
 pub mod Refusing
+pub mod Finding
+pub mod Indexing
+pub mod Spelling

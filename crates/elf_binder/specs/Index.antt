@@ -1,6 +1,7 @@
 -- Places of exports in order of their names, by which a name is found without going through all of them.
-use Rattle.std.specs.Prelude.{◌≡◌, ℕ, Bool, not, ◌&&◌, ◌||◌, List, [], find, bytes_eq, slice_get, option_and_then}
+use Rattle.std.specs.Prelude.{◌≡◌, ℕ, Bool, not, ◌&&◌, ◌||◌, List, [], map, filter, find, bytes_eq, slice_get, option_and_then}
 use Rattle.std.specs.Cmp.Lexicographic.{slice_cmp}
+use Rattle.std.specs.List.{enumerate_from}
 use Rattle.std.specs.List.Sorted.{IsSortedBy}
 use Rattle.std.specs.Option.{option_map_or}
 use Rattle.std.specs.Ordering.{is_lt, nat_cmp}
@@ -9,7 +10,7 @@ use Rattle.elf_binder.specs.Modules.{has_name}
 
 -- the name of the export at a place, no bytes where there is none
 abbrev pub name_at : List Export → ℕ → List ℕ
-name_at exports place = option_map_or (λ export. export.name) [] (slice_get exports place)
+name_at exports place = option_map_or (λ export. export.name) (slice_get exports place) []
 
 -- the order of places by the names of their exports
 abbrev pub precedes : List Export → ℕ → ℕ → Bool
@@ -21,6 +22,10 @@ is_named exports name place = bytes_eq (name_at exports place) name
 -- all exports, or just those that may be called
 abbrev pub is_wanted : Bool → Export → Bool
 is_wanted only_callable export = not only_callable || export.callable
+
+-- the places of the exports that are wanted, in their order
+abbrev pub places_of : Bool → List Export → List ℕ
+places_of only_callable exports = map (λ entry. entry.0) (filter (λ entry. is_wanted only_callable entry.1) (enumerate_from 0 exports))
 
 -- The places are in order of the names, and the first place of a name is that of the first export of this name that is wanted.
 pub record IsIndex (only_callable : Bool) (exports : List Export) (places : List ℕ) : Type 0 where

@@ -78,7 +78,7 @@ abbrev pub spellings : List ℕ → List (List ℕ)
 spellings name = name ∷ (name ++ codes ".so") ∷ (codes "lib" ++ name ++ codes ".so") ∷ (codes "lib" ++ name) ∷ []
 
 -- the first library of just this name
-abbrev pub named : List Module → List ℕ → Option ℕ
+unfoldable pub named : List Module → List ℕ → Option ℕ
 named modules name = position (λ m. bytes_eq m.name name) modules
 
 -- by the first spelling that a library has

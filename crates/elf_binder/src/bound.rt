@@ -39,18 +39,17 @@ impl Bound {
     /// The number of a library by a module's name, which is looked for as it is, with `.so` behind, with `lib` before and `.so`
     /// behind, and with `lib` before. Where no library is found, `c`, `libc`, `libc.so` and `libc.so.6` name the built-in library
     /// of the host functions, whose number is the count of libraries.
+    #[tactic(auto, unfolding(crate::specs::Modules::library_named))]
     pub fn library(&self, name: &[u8]) -> Option<u32>
         ensures { result ≡ library_named self.now.modules name.now }
     {
-        let number = match first_spelled(self.modules.as_slice(), name) {
-            Some(number) => number,
-            None if is_built_in(name) => self.modules.len(),
-            None => return None,
-        };
-        Some(number as u32)
+        let count = self.modules.len() as u32;
+        first_spelled(self.modules.as_slice(), name)
+            .or_else(|| is_built_in(name).then_some(count))
     }
 
     /// The address of a name that may be called, in a library by its number: a function or a symbol without a type.
+    #[tactic(auto, unfolding(crate::specs::Modules::symbol_in))]
     pub fn symbol(&self, library: u32, name: &[u8]) -> Option<u64>
         ensures { result ≡ symbol_in self.now.modules library name.now }
     {

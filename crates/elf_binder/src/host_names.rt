@@ -1,7 +1,7 @@
 //! The functions that stand in the host, by their names.
 
-ghost use Rattle.std.specs.Prelude.{◌≡◌};
-ghost use Rattle.elf_binder.specs.Modules.{host_address as address_in_host};
+ghost use Rattle.std.specs.Prelude.{◌≡◌, ◌<◌, position, bytes_eq, IfSome};
+ghost use Rattle.elf_binder.specs.Modules.{host_address as address_in_host, host_names};
 
 /// The host functions, by their numbers.
 const HOST_NAMES: [&str; 13] = [
@@ -21,9 +21,18 @@ const HOST_NAMES: [&str; 13] = [
 ];
 
 /// The address of a host function, None where there is none of the name.
+#[tactic(auto, unfolding(crate::specs::Modules::host_address))]
 pub fn host_address(name: &[u8]) -> Option<u64>
     ensures { result ≡ address_in_host name.now }
 {
-    let number = HOST_NAMES.iter().position(|host| host.as_bytes() == name)?;
+    let number = host_number(name)?;
     Some(0x200 + 16 * number as u64)
+}
+
+/// The number of a host function.
+fn host_number(name: &[u8]) -> Option<usize>
+    ensures number { result ≡ position (λ host. bytes_eq host name.now) host_names }
+    ensures within { IfSome result (λ number. number < 13) }
+{
+    HOST_NAMES.iter().position(|host| host.as_bytes() == name)
 }

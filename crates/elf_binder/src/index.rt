@@ -4,7 +4,7 @@ ghost use Rattle.std.specs.Prelude.{◌≡◌, find, slice_get, option_map, opti
 ghost use Rattle.std.specs.Cmp.Lexicographic.{slice_cmp};
 ghost use Rattle.std.specs.List.Sorted.{IsSortedBy};
 ghost use Rattle.std.specs.Ordering.{is_lt, nat_cmp};
-ghost use Rattle.elf_binder.specs.Index.{IsIndex, name_at as name_of_place, precedes, is_named};
+ghost use Rattle.elf_binder.specs.Index.{IsIndex, name_at as name_of_place, precedes, is_named, places_of};
 
 use crate::module::Export;
 use bound_base::Items;
@@ -42,14 +42,14 @@ fn wanted(
     alloc: Global,
     exports: &Items<Export>,
     only_callable: bool,
-) -> Result<Vec<usize>, AllocError> {
-    let mut places = Vec::new(alloc);
-    for (place, export) in exports.as_slice().iter().enumerate() {
-        if !only_callable || export.callable {
-            places.push(place)?;
-        }
-    }
-    Ok(places)
+) -> Result<Vec<usize>, AllocError>
+    ensures { IfOk result (λ places. places.items ≡ places_of only_callable exports.now) }
+{
+    let exports = exports.as_slice().iter().enumerate();
+    exports
+        .filter(|(_, export)| !only_callable || export.callable)
+        .map(|(place, _)| place)
+        .collect(alloc)
 }
 
 /// The name of the export at a place, no bytes where there is none.

@@ -1,6 +1,6 @@
 //! Libraries by the names of modules.
 
-ghost use Rattle.std.specs.Prelude.{◌≡◌, ◌++◌, position, bytes_eq};
+ghost use Rattle.std.specs.Prelude.{◌≡◌, ◌<◌, ◌≤◌, ◌++◌, length, bytes_eq, IfSome};
 ghost use Rattle.std.specs.List.{list_any};
 ghost use Rattle.elf_binder.specs.Modules.{named, first_spelled as first_of_spellings, spellings, built_in_names};
 
@@ -10,7 +10,8 @@ use crate::module::Module;
 const BUILT_IN_NAMES: [&str; 4] = ["c", "libc", "libc.so", "libc.so.6"];
 
 /// The number of the first library of the first spelling that one has.
-pub fn first_spelled(modules: &[Module], name: &[u8]) -> Option<usize>
+pub fn first_spelled(modules: &[Module], name: &[u8]) -> Option<u32>
+    requires { length modules.now ≤ 16 }
     ensures { result ≡ first_of_spellings modules.now (spellings name.now) }
 {
     library_of(modules, b"", name, b"")
@@ -29,8 +30,18 @@ pub fn is_built_in(name: &[u8]) -> bool
 }
 
 /// The number of the first library of a name that is given in three pieces.
-fn library_of(modules: &[Module], front: &[u8], name: &[u8], back: &[u8]) -> Option<usize>
+fn library_of(modules: &[Module], front: &[u8], name: &[u8], back: &[u8]) -> Option<u32>
+    requires { length modules.now ≤ 16 }
     ensures { result ≡ named modules.now (front.now ++ name.now ++ back.now) }
+{
+    let number = position_of(modules, front, name, back)?;
+    Some(number as u32)
+}
+
+#[tactic(auto, unfolding(crate::specs::Modules::named))]
+fn position_of(modules: &[Module], front: &[u8], name: &[u8], back: &[u8]) -> Option<usize>
+    ensures number { result ≡ named modules.now (front.now ++ name.now ++ back.now) }
+    ensures within { IfSome result (λ number. number < length modules.now) }
 {
     modules
         .iter()
@@ -41,8 +52,11 @@ fn library_of(modules: &[Module], front: &[u8], name: &[u8], back: &[u8]) -> Opt
 fn is_spelled(text: &[u8], front: &[u8], name: &[u8], back: &[u8]) -> bool
     ensures { result ≡ bytes_eq text.now (front.now ++ name.now ++ back.now) }
 {
-    match text.strip_prefix(front) {
-        Some(rest) => rest.strip_suffix(back) == Some(name),
-        None => false,
-    }
+    let Some(rest) = text.strip_prefix(front) else {
+        return false;
+    };
+    let Some(middle) = rest.strip_suffix(back) else {
+        return false;
+    };
+    middle == name
 }

@@ -89,12 +89,13 @@ impl Module {
 
 /// The symbol defines its name for other libraries (System V gABI, 'Symbol Table'): it is global or weak, has a section, is an
 /// object, a function or has no type, and its visibility is default or protected.
+#[tactic(auto, unfolding(crate::specs::Modules::is_defined))]
 pub fn is_defined(symbol: &Symbol) -> bool
     ensures { result ≡ defines_its_name (symbol_of symbol.now) }
 {
     (symbol.binding == 1 || symbol.binding == 2)
         && symbol.section != 0
-        && symbol.kind <= 2
+        && (symbol.kind == 0 || symbol.kind == 1 || symbol.kind == 2)
         && (symbol.visibility == 0 || symbol.visibility == 3)
 }
 
