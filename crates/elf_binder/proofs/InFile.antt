@@ -40,7 +40,7 @@ each_taken P zero xs all = tt
 each_taken P (suc n) [] all = tt
 each_taken P (suc n) (x ∷ xs) all = (all.0, each_taken P n xs all.1)
 
-each_contained : {A : Type 0} (P : A → Type 0) (xs : List A) → ((x : A) → Contains xs x → P x) → Each P xs
+pub each_contained : {A : Type 0} (P : A → Type 0) (xs : List A) → ((x : A) → Contains xs x → P x) → Each P xs
 each_contained P [] all = tt
 each_contained P (x ∷ xs) all = (all x (0, omega arith, refl), each_contained P xs (λ y c. all y (suc c.0, omega (arith, c.1), c.2)))
 

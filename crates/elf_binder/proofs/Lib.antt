@@ -7,3 +7,6 @@ pub mod Refusing
 pub mod Finding
 pub mod Indexing
 pub mod Spelling
+pub mod AnyOf
+pub mod Writing
+pub mod SymbolPlaces

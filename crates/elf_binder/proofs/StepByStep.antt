@@ -26,7 +26,7 @@ pub it_fails : {S A : Type 0} (step : S → A → Result S Unbound) (first : S) 
 unfolding steps
 it_fails step first all now k x d came is failed = came.left ∙ rw (next_is all k x is, failed) refl
 
-all_gone : {A : Type 0} (all : List A) (k : ℕ) → length all ≤ k → drop k all ≡ []
+pub all_gone : {A : Type 0} (all : List A) (k : ℕ) → length all ≤ k → drop k all ≡ []
 all_gone [] zero h = refl
 all_gone [] (suc k) h = refl
 all_gone (x ∷ xs) zero h = absurd (omega arith)

@@ -73,11 +73,17 @@ fn write_relocation(
     let Some(symbol) = value_for(modules, source.elf.symbols.as_slice(), kind, r.symbol) else {
         return Err(broken(source, ElfPart::Unresolved, r.at + 8));
     };
-    let addend = r.addend.cast_unsigned();
-    match write_value(memory, base + r.offset, kind, base, symbol, addend) {
+    match write_value(memory, base + r.offset, kind, base, symbol, addend_bits(r)) {
         Ok(()) => Ok(()),
         Err(_) => Err(broken(source, ElfPart::RelocTarget, r.at)),
     }
+}
+
+/// The addend as 64 bits.
+fn addend_bits(r: &Relocation) -> u64
+    ensures { result ≡ cast_unsigned w64 r.now.addend }
+{
+    r.addend.cast_unsigned()
 }
 
 /// Writes what a kind makes of a base, a symbol's value and an addend.
