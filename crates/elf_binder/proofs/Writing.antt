@@ -11,10 +11,13 @@ use Rattle.byte_view.proofs.Loads.{loads_of_libraries_lie_apart}
 use Rattle.native_memory.specs.AddressSpace.{AddressSpace}
 use Rattle.native_memory.specs.Ranges.{written_at}
 use Rattle.elf_binder.specs.declared.relocation.Kind.{Kind}
+use Rattle.elf_binder.specs.contracts.relocation.Kind.{the_type}
+use denote.Enum.Bare.{sameb}
 use Rattle.elf_binder.specs.Steps.{Unbound, ◌>>=◌}
 use Rattle.elf_binder.specs.Modules.{Module}
 use Rattle.elf_binder.specs.Loading.{Source}
-use Rattle.elf_binder.specs.Relocating.{width_of, is_target, is_writable, value_for, bytes_for, write_relocation}
+use Rattle.elf_binder.specs.declared.relocation.Kind.TheVariants.{Nothing, Absolute32, Absolute64, Relative, JumpSlot}
+use Rattle.elf_binder.specs.Relocating.{kind_of, width_of, is_target, is_writable, value_for, bytes_for, write_relocation, relocate_as, relocate}
 use Rattle.elf_binder.specs.Sources.{IsRead}
 use Rattle.elf_binder.proofs.InFile.{Each, each_contained}
 
@@ -60,3 +63,27 @@ pub not_written : (modules : List Module) (source : Source) (base : ℕ) (space 
     → write_relocation modules source base space r kind ≡ Err (source.number, parts.reloc_target, r.at)
 unfolding write_relocation
 not_written modules source base space r kind symbol target value is = rw (target, value, is) refl
+
+-- ---- by its kind
+
+pub no_kind : (modules : List Module) (source : Source) (base : ℕ) (space : AddressSpace) (r : Relocation) → kind_of r.kind ≡ None → relocate modules source base space r ≡ Err (source.number, parts.reloc_type, r.at + 8)
+unfolding relocate
+no_kind modules source base space r is = rw is refl
+
+pub nothing_written : (modules : List Module) (source : Source) (base : ℕ) (space : AddressSpace) (r : Relocation) (kind : Kind) → kind_of r.kind ≡ Some kind → sameb the_type kind Nothing ≡ true
+    → relocate modules source base space r ≡ Ok space
+unfolding relocate
+nothing_written modules source base space r Nothing is same = rw is refl
+nothing_written modules source base space r Absolute32 is same = absurd (cc)
+nothing_written modules source base space r Absolute64 is same = absurd (cc)
+nothing_written modules source base space r Relative is same = absurd (cc)
+nothing_written modules source base space r JumpSlot is same = absurd (cc)
+
+pub written_as : (modules : List Module) (source : Source) (base : ℕ) (space : AddressSpace) (r : Relocation) (kind : Kind) → kind_of r.kind ≡ Some kind → sameb the_type kind Nothing ≡ false
+    → relocate modules source base space r ≡ write_relocation modules source base space r kind
+unfolding relocate
+written_as modules source base space r Nothing is same = absurd (cc)
+written_as modules source base space r Absolute32 is same = rw is refl
+written_as modules source base space r Absolute64 is same = rw is refl
+written_as modules source base space r Relative is same = rw is refl
+written_as modules source base space r JumpSlot is same = rw is refl

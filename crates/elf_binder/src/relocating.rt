@@ -46,11 +46,13 @@ fn relocate(
     requires entry { r.now.at + 24 ≤ length source.now.file.now }
     ensures { Gives (λ _. memory.new) result (relocate modules.now (source_of source.now) base memory.old (relocation_of r.now)) }
 {
-    match Kind::of(r.kind) {
-        None => Err(broken(source, ElfPart::RelocType, r.at + 8)),
-        Some(Kind::Nothing) => Ok(()),
-        Some(kind) => write_relocation(modules, source, base, r, kind, memory),
+    let Some(kind) = Kind::of(r.kind) else {
+        return Err(broken(source, ElfPart::RelocType, r.at + 8));
+    };
+    if kind == Kind::Nothing {
+        return Ok(());
     }
+    write_relocation(modules, source, base, r, kind, memory)
 }
 
 /// Writes what a relocation of a kind stands for. Its bytes have to lie in one writable load of its own library.
