@@ -10,3 +10,4 @@ pub mod Spelling
 pub mod AnyOf
 pub mod Writing
 pub mod SymbolPlaces
+pub mod Initials

@@ -2,9 +2,11 @@
 //! Dynamic Linking'; RISC-V psABI).
 #![tactic(auto)]
 
+mod binding;
 mod bound;
 mod host_names;
 mod index;
+mod initializers;
 mod library_names;
 mod loading;
 mod module;
@@ -15,6 +17,7 @@ mod scope;
 mod source;
 mod symbol_values;
 
+pub use binding::bind;
 pub use bound::Bound;
 pub use host_names::host_address;
 pub use module::{Export, Module, is_defined};

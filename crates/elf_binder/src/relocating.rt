@@ -102,7 +102,10 @@ fn write_value(
 {
     match kind {
         Kind::Nothing => memory.write(addr, &[]),
-        Kind::Absolute32 => memory.write(addr, &low_half(symbol.wrapping_add(addend)).to_le_bytes()),
+        Kind::Absolute32 => memory.write(
+            addr,
+            &low_half(symbol.wrapping_add(addend)).to_le_bytes(),
+        ),
         Kind::Absolute64 => memory.write(addr, &symbol.wrapping_add(addend).to_le_bytes()),
         Kind::Relative => memory.write(addr, &base.wrapping_add(addend).to_le_bytes()),
         Kind::JumpSlot => memory.write(addr, &symbol.to_le_bytes()),

@@ -1,6 +1,6 @@
 //! A library that is bound, and the file from which it was read.
 
-ghost use Rattle.std.specs.Prelude.{◌≡◌, ◌<◌, ◌^◌, length, map, slice_get, Some};
+ghost use Rattle.std.specs.Prelude.{◌≡◌, ◌<◌, ◌^◌, length, map, zip, slice_get, Some};
 ghost use Rattle.elf_reader.specs.Elf.{library_of};
 ghost use Rattle.elf_binder.specs.Binding.{sources_from};
 ghost use Rattle.elf_binder.specs.Sources.{source_of};
@@ -32,6 +32,22 @@ pub fn source_at<'a>(elfs: &'a [Elf], files: &'a [Bytes], number: usize) -> Sour
         file: files[number].as_slice(),
         elf: &elfs[number],
     }
+}
+
+/// The library of a number, and the base at which it stands.
+pub fn placed_library<'a>(
+    elfs: &'a [Elf],
+    files: &'a [Bytes],
+    bases: &[u64],
+    number: usize,
+) -> (Source<'a>, u64)
+    requires elf { number < length elfs.now }
+    requires file { number < length files.now }
+    requires base { number < length bases.now }
+    requires low { number < 2 ^ 32 }
+    ensures { slice_get (zip (sources_from 0 files.now (map library_of elfs.now)) bases.now) number ≡ Some (source_of result.0, result.1) }
+{
+    (source_at(elfs, files, number), bases[number])
 }
 
 /// The refusal of a library: its part that is broken, and the file offset of the field that is wrong.

@@ -20,14 +20,14 @@ returns-in_err-place_library-clause-placed c =
     let first : Placed = record { bases = []; space = c.args.memory.now } in
     rw (p.1, p.2)
     (refused c.in_err-place_library.field-0.0 _ _ (λ d fails. it_fails place_library first (sources_from 0 c.args.files.now (map library_of c.args.elfs.now)) (record { bases = c.loop-number.bases; space = c.loop-number.memory })
-      c.loop-number.number (source_of c.source_at-source.result) d c.loop-number.invariant.came c.source_at-source.ensures fails) c.in_err-place_library.ensures.placed)
+    c.loop-number.number (source_of c.source_at-source.result) d c.loop-number.invariant.came c.source_at-source.ensures fails) c.in_err-place_library.ensures.placed)
 
 pub loop-number-preserved : goal.loop-number-preserved
 loop-number-preserved c =
     let first : Placed = record { bases = []; space = c.args.memory.now } in
     record {
       came = one_more place_library first (sources_from 0 c.args.files.now (map library_of c.args.elfs.now)) (record { bases = c.loop-number.bases; space = c.loop-number.memory })
-      c.loop-number.number (source_of c.source_at-source.result) (record { bases = c.place_library.new.bases; space = c.place_library.new.memory }) c.loop-number.invariant.came c.source_at-source.ensures c.in_ok-place_library.ensures.placed;
+          c.loop-number.number (source_of c.source_at-source.result) (record { bases = c.place_library.new.bases; space = c.place_library.new.memory }) c.loop-number.invariant.came c.source_at-source.ensures c.in_ok-place_library.ensures.placed;
       count = omega (arith, c.in_ok-place_library.ensures.count);
       low = c.in_ok-place_library.ensures.low c.loop-number.invariant.low;
     }

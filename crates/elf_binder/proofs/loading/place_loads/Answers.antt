@@ -39,7 +39,7 @@ returns-in_err-place_load c =
     let is = load_is loads c.args.source.now.elf.now.loads c.loop-load.load-index c.as_slice-load-items.ensures c.loop-load-test.true in
     rw (p.1, p.2)
     (refused c.in_err-place_load.field-0.0 _ _ (λ d fails. it_fails (place_load (source_of c.args.source.now) c.args.base) c.args.memory.now (map load_of c.args.source.now.elf.now.loads) c.loop-load.memory
-      c.loop-load.load-index load d c.loop-load.invariant.came is fails) c.in_err-place_load.ensures)
+    c.loop-load.load-index load d c.loop-load.invariant.came is fails) c.in_err-place_load.ensures)
 
 pub loop-load-preserved : goal.loop-load-preserved
 loop-load-preserved c =
@@ -48,7 +48,7 @@ loop-load-preserved c =
     let is = load_is loads c.args.source.now.elf.now.loads c.loop-load.load-index c.as_slice-load-items.ensures c.loop-load-test.true in
     record {
       came = one_more (place_load (source_of c.args.source.now) c.args.base) c.args.memory.now (map load_of c.args.source.now.elf.now.loads) c.loop-load.memory c.loop-load.load-index load c.place_load.new.memory
-      c.loop-load.invariant.came is c.in_ok-place_load.ensures;
+          c.loop-load.invariant.came is c.in_ok-place_load.ensures;
       behind = next_behind (source_of c.args.source.now) c.args.base c.loop-load.memory c.place_load.new.memory c.loop-load.load-index load c.requires.read is c.in_ok-place_load.ensures c.loop-load.invariant.behind;
     }
 

@@ -23,7 +23,7 @@ returns-in_err-relocate c =
     let is = relocation_is c.as_slice-r-items.result.now c.args.source.now.elf.now.relocs c.loop-r.r-index c.as_slice-r-items.ensures c.loop-r-test.true in
     rw (p.1, p.2)
     (refused c.in_err-relocate.field-0.0 _ _ (λ d fails. it_fails (relocate c.args.modules.now (source_of c.args.source.now) c.args.base) c.args.memory.now (map relocation_of c.args.source.now.elf.now.relocs) c.loop-r.memory
-      c.loop-r.r-index r d c.loop-r.invariant is fails) c.in_err-relocate.ensures)
+    c.loop-r.r-index r d c.loop-r.invariant is fails) c.in_err-relocate.ensures)
 
 pub loop-r-preserved : goal.loop-r-preserved
 loop-r-preserved c =
