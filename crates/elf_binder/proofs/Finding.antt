@@ -22,23 +22,23 @@ module _ {X : Type 0} (test : X → Bool) where
   pub find_none : (xs : List X) → All (λ x. test x ≡ false) xs → find test xs ≡ None
   find_none [] fails = refl
   find_none (x ∷ xs) fails =
-    let here : test x ≡ false = All-head (λ x. test x ≡ false) x xs fails in
-    ap (λ b. cond b (Some x) (find test xs)) here ∙ find_none xs (All-tail (λ x. test x ≡ false) x xs fails)
+      let here : test x ≡ false = All-head (λ x. test x ≡ false) x xs fails in
+      ap (λ b. cond b (Some x) (find test xs)) here ∙ find_none xs (All-tail (λ x. test x ≡ false) x xs fails)
 
   -- where all before a place fail the test, and all behind it do if the one there does
   pub find_at :
-    (xs : List X) (at : ℕ) → ((k : ℕ) (d : X) → k < at → k < length xs → test (get_or xs k d) ≡ false)
-    → ((k : ℕ) (d : X) → at ≤ k → k < length xs → test (get_or xs at d) ≡ false → test (get_or xs k d) ≡ false)
-    → find test xs ≡ hit test (slice_get xs at)
+      (xs : List X) (at : ℕ) → ((k : ℕ) (d : X) → k < at → k < length xs → test (get_or xs k d) ≡ false)
+      → ((k : ℕ) (d : X) → at ≤ k → k < length xs → test (get_or xs at d) ≡ false → test (get_or xs k d) ≡ false)
+      → find test xs ≡ hit test (slice_get xs at)
   find_at [] at before behind = refl
   find_at (x ∷ xs) zero before behind =
-    found_here x xs (test x) refl (λ fails. find_none xs (λ k d within. behind (suc k) d (omega arith) (omega arith) fails))
+      found_here x xs (test x) refl (λ fails. find_none xs (λ k d within. behind (suc k) d (omega arith) (omega arith) fails))
   find_at (x ∷ xs) (suc at) before behind =
-    ap (λ b. cond b (Some x) (find test xs)) (before 0 x (omega arith) (omega arith))
-    ∙ find_at xs at (λ k d less within. before (suc k) d (omega arith) (omega arith)) (λ k d least within. behind (suc k) d (omega arith) (omega arith))
+      ap (λ b. cond b (Some x) (find test xs)) (before 0 x (omega arith) (omega arith))
+      ∙ find_at xs at (λ k d less within. before (suc k) d (omega arith) (omega arith)) (λ k d least within. behind (suc k) d (omega arith) (omega arith))
 
   first_of : (x : X) (xs : List X) (b : Bool) → find test xs ≡ slice_get (filter test xs) 0
-    → cond b (Some x) (find test xs) ≡ slice_get (cond b (x ∷ filter test xs) (filter test xs)) 0
+      → cond b (Some x) (find test xs) ≡ slice_get (cond b (x ∷ filter test xs) (filter test xs)) 0
   first_of x xs true rest = refl
   first_of x xs false rest = rest
 
@@ -48,7 +48,7 @@ module _ {X : Type 0} (test : X → Bool) where
   find_first (x ∷ xs) = first_of x xs (test x) (find_first xs)
 
   passes_if : (x y : X) (xs : List X) (b : Bool) → test y ≡ b → cond b (Some y) (find test xs) ≡ Some x
-    → (find test xs ≡ Some x → test x ≡ true) → test x ≡ true
+      → (find test xs ≡ Some x → test x ≡ true) → test x ≡ true
   passes_if x y xs true here is rest = cc
   passes_if x y xs false here is rest = rest is
 
@@ -57,7 +57,7 @@ module _ {X : Type 0} (test : X → Bool) where
   found_passes (y ∷ xs) x is = passes_if x y xs (test y) refl is (found_passes xs x)
 
   fails_if : (y : X) (xs : List X) (b : Bool) → test y ≡ b → cond b (Some y) (find test xs) ≡ None
-    → (find test xs ≡ None → All (λ x. test x ≡ false) xs) → All (λ x. test x ≡ false) (y ∷ xs)
+      → (find test xs ≡ None → All (λ x. test x ≡ false) xs) → All (λ x. test x ≡ false) (y ∷ xs)
   fails_if y xs true here is rest = cc
   fails_if y xs false here is rest = All-cons (λ x. test x ≡ false) y xs here (rest is)
 
@@ -102,9 +102,9 @@ module _ {X : Type 0} (ord : X → Ordering) (xs : List X) (rises : IsNonDecreas
 
   -- the first that is not less is the first that is equal, if there is one
   pub find_equal : (at : ℕ) → IsPartitionPoint (λ x. is_lt (ord x) ≡ true) (λ x. is_lt (ord x) ≡ false) xs at
-    → find (λ x. is_eq (ord x)) xs ≡ hit (λ x. is_eq (ord x)) (slice_get xs at)
+      → find (λ x. is_eq (ord x)) xs ≡ hit (λ x. is_eq (ord x)) (slice_get xs at)
   find_equal at point =
-    find_at (λ x. is_eq (ord x)) xs at
-    (λ k d less within. less_not_equal (ord (get_or xs k d)) (point.0 k d (omega arith) less))
-    (λ k d least within fails.
+      find_at (λ x. is_eq (ord x)) xs at
+      (λ k d less within. less_not_equal (ord (get_or xs k d)) (point.0 k d (omega arith) less))
+      (λ k d least within fails.
       above_not_equal (ord (get_or xs at d)) (ord (get_or xs k d)) (rises at k d least within) (point.1 at d (omega arith) (omega arith)) fails)

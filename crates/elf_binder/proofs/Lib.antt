@@ -1,3 +1,5 @@
 pub mod Finding
 pub mod Indexing
 pub mod Spelling
+pub mod InScope
+pub mod Exports

@@ -24,7 +24,8 @@ module _ (text front name back : List ℕ) where
     -- else what stands between them decides
     pub between : (middle : List ℕ) → rest ≡ middle ++ back → bytes_eq middle name ≡ bytes_eq text (front ++ name ++ back)
     between middle ends =
-      one_answer _ _
-      (bytes_eq-Decides middle name)
-      ((λ t. append_cancel_right middle name back (sym ends ∙ behind_front ((bytes_eq-Decides text (front ++ name ++ back)).0 t))),
-        λ is. (bytes_eq-Decides text (front ++ name ++ back)).1 (begins ∙ ap (λ (l : List ℕ). front ++ l) (ends ∙ ap (λ (l : List ℕ). l ++ back) is) ∙ sym (append_assoc front name back)))
+        one_answer _ _
+        (bytes_eq-Decides middle name) (
+          (λ t. append_cancel_right middle name back (sym ends ∙ behind_front ((bytes_eq-Decides text (front ++ name ++ back)).0 t))),
+          λ is. (bytes_eq-Decides text (front ++ name ++ back)).1 (begins ∙ ap (λ (l : List ℕ). front ++ l) (ends ∙ ap (λ (l : List ℕ). l ++ back) is) ∙ sym (append_assoc front name back)),
+        )

@@ -44,8 +44,7 @@ impl Bound {
         ensures { result ≡ library_named self.now.modules name.now }
     {
         let count = self.modules.len() as u32;
-        first_spelled(self.modules.as_slice(), name)
-            .or_else(|| is_built_in(name).then_some(count))
+        first_spelled(self.modules.as_slice(), name).or_else(|| is_built_in(name).then_some(count))
     }
 
     /// The address of a name that may be called, in a library by its number: a function or a symbol without a type.

@@ -10,6 +10,7 @@ mod module;
 mod refusal;
 mod relocation;
 mod scope;
+mod texts;
 
 pub use bound::Bound;
 pub use host_names::host_address;
