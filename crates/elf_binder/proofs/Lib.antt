@@ -3,3 +3,4 @@ pub mod Indexing
 pub mod Spelling
 pub mod InScope
 pub mod Exports
+pub mod HostPlaces

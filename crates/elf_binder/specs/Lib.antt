@@ -5,3 +5,4 @@ pub mod Relocating
 pub mod Binding
 pub mod Refusals
 pub mod Index
+pub mod Laws
