@@ -1,6 +1,7 @@
 -- Places in order of names: what is found by them, and that sorting makes them so.
 use Rattle.std.proofs.Common.{◌≡◌, ℕ, zero, suc, ◌+◌, Bool, true, false, not, ◌&&◌, cond, List, [], ◌∷◌, ◌++◌, map, length, get_or, Option, Some, None, refl, sym, ap, ◌∙◌, append_assoc}
 use Rattle.std.specs.Prelude.{find, filter, slice_get, bytes_eq, option_map, option_and_then}
+use Rattle.std.specs.Bool.{then_some}
 use Rattle.std.specs.Cmp.{IsStrictWeakOrder, unsigned_ties}
 use Rattle.std.specs.Cmp.Lexicographic.{slice_cmp, nat_list_cmp_total, lists_ties}
 use Rattle.std.specs.List.{enumerate_from}
@@ -15,12 +16,8 @@ use Rattle.std.proofs.lemmas.List.Sorted.{searchable_from_sorted, ranks_by}
 use Rattle.std.proofs.lemmas.Slice.Eq.{bytes_eq-Decides}
 use Rattle.elf_binder.specs.declared.module.Export.{Export}
 use Rattle.elf_binder.specs.Modules.{has_name}
-use Rattle.elf_binder.specs.Index.{name_at, precedes, is_named, is_wanted, places_of, IsIndex}
+use Rattle.elf_binder.specs.Index.{name_at, compared, precedes, SplitsAt, is_named, is_wanted, places_of, IsIndex}
 use Rattle.elf_binder.proofs.Finding.{hit, find_equal, parted, same_found}
-
--- how the name of the export at a place compares with a name
-abbrev pub compared : List Export → List ℕ → ℕ → Ordering
-compared exports name place = slice_cmp nat_cmp (name_at exports place) name
 
 named_is : (exports : List Export) (name : List ℕ) (place : ℕ) → is_named exports name place ≡ is_eq (compared exports name place)
 named_is exports name place = lists_ties nat_cmp unsigned_ties (name_at exports place) name
@@ -33,13 +30,50 @@ module _ (exports : List Export) (places : List ℕ) (name : List ℕ) (sorted :
   names_parted = parted (compared exports name) places rises
 
   -- what bisection finds is the first place of the name
-  pub find_named : (at : ℕ) → IsPartitionPoint (λ place. is_lt (compared exports name place) ≡ true) (λ place. is_lt (compared exports name place) ≡ false) places at
+  pub find_named : (at : ℕ) → SplitsAt exports name places at
       → find (is_named exports name) places ≡ hit (is_named exports name) (slice_get places at)
   find_named at point =
       let same : is_named exports name ≡ (λ place. is_eq (compared exports name place)) = λ i. λ place. named_is exports name place i in
       ap (λ (test : ℕ → Bool). find test places) same
       ∙ find_equal (compared exports name) places rises at point
       ∙ ap (λ (test : ℕ → Bool). hit test (slice_get places at)) (sym same)
+
+  module _ (at : ℕ) (point : SplitsAt exports name places at) where
+    -- the address of what bisection finds
+    abbrev found_by : Option ℕ → Option ℕ
+    found_by place = option_map (λ (e : Export). e.address) (option_and_then (slice_get exports) (hit (is_named exports name) place))
+
+    address_found : option_map (λ (e : Export). e.address) (option_and_then (slice_get exports) (find (is_named exports name) places)) ≡ found_by (slice_get places at)
+    address_found = ap (λ (o : Option ℕ). option_map (λ (e : Export). e.address) (option_and_then (slice_get exports) o)) (find_named at point)
+
+    pub found_nowhere : slice_get places at ≡ None
+        → None ≡ option_map (λ (e : Export). e.address) (option_and_then (slice_get exports) (find (is_named exports name) places))
+    found_nowhere end = sym (address_found ∙ ap found_by end)
+
+    nothing_if : (place : ℕ) (named : Bool) → slice_get exports place ≡ None
+        → option_map (λ (e : Export). e.address) (option_and_then (slice_get exports) (cond named (Some place) None)) ≡ None
+    nothing_if place true none = ap (option_map (λ (e : Export). e.address)) none
+    nothing_if place false none = refl
+
+    pub found_nothing : (place : ℕ) → slice_get places at ≡ Some place → slice_get exports place ≡ None
+        → None ≡ option_map (λ (e : Export). e.address) (option_and_then (slice_get exports) (find (is_named exports name) places))
+    found_nothing place first none =
+        sym (address_found ∙ ap found_by first ∙ nothing_if place (is_named exports name place) none)
+
+    address_if : (place : ℕ) (export : Export) (named : Bool) → slice_get exports place ≡ Some export
+        → option_map (λ (e : Export). e.address) (option_and_then (slice_get exports) (cond named (Some place) None)) ≡ then_some named export.address
+    address_if place export true some = ap (option_map (λ (e : Export). e.address)) some
+    address_if place export false some = refl
+
+    pub found_export : (place : ℕ) (export : Export) → slice_get places at ≡ Some place → slice_get exports place ≡ Some export
+        → then_some (bytes_eq export.name name) export.address
+        ≡ option_map (λ (e : Export). e.address) (option_and_then (slice_get exports) (find (is_named exports name) places))
+    found_export place export first some =
+        sym
+        (address_found
+        ∙ ap found_by first
+        ∙ address_if place export (is_named exports name place) some
+        ∙ ap (λ (o : Option Export). then_some (bytes_eq (option_map_or (λ (e : Export). e.name) o []) name) export.address) some)
 
 tied_are_equal : (r s : Ordering) → r ≡ ordering_reverse s → (not (is_lt r) && not (is_lt s)) ≡ is_eq s
 tied_are_equal r Less is = ap (λ o. not (is_lt o) && false) is

@@ -11,3 +11,6 @@ pub mod AnyOf
 pub mod Writing
 pub mod SymbolPlaces
 pub mod Initials
+pub mod InScope
+pub mod Exports
+pub mod HostPlaces

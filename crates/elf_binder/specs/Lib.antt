@@ -6,3 +6,4 @@ pub mod Relocating
 pub mod Binding
 pub mod Refusals
 pub mod Sources
+pub mod Laws

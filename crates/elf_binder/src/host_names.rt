@@ -3,6 +3,8 @@
 ghost use Rattle.std.specs.Prelude.{◌≡◌, ◌<◌, position, bytes_eq, IfSome};
 ghost use Rattle.elf_binder.specs.Modules.{host_address as address_in_host, host_names};
 
+use crate::texts::place_among;
+
 /// The host functions, by their numbers.
 const HOST_NAMES: [&str; 13] = [
     "malloc",
@@ -34,5 +36,5 @@ fn host_number(name: &[u8]) -> Option<usize>
     ensures number { result ≡ position (λ host. bytes_eq host name.now) host_names }
     ensures within { IfSome result (λ number. number < 13) }
 {
-    HOST_NAMES.iter().position(|host| host.as_bytes() == name)
+    place_among(&HOST_NAMES, name)
 }

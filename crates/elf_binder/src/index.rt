@@ -1,10 +1,9 @@
 //! Places of exports in order of their names, by which a name is found in few steps.
 
 ghost use Rattle.std.specs.Prelude.{◌≡◌, find, slice_get, option_map, option_and_then, IfOk};
-ghost use Rattle.std.specs.Cmp.Lexicographic.{slice_cmp};
 ghost use Rattle.std.specs.List.Sorted.{IsSortedBy};
-ghost use Rattle.std.specs.Ordering.{is_lt, nat_cmp};
-ghost use Rattle.elf_binder.specs.Index.{IsIndex, name_at as name_of_place, precedes, is_named, places_of};
+ghost use Rattle.std.specs.Ordering.{is_lt};
+ghost use Rattle.elf_binder.specs.Index.{IsIndex, name_at as name_of_place, compared, order, precedes, SplitsAt, is_named, places_of};
 
 use crate::module::Export;
 use bound_base::Items;
@@ -21,7 +20,11 @@ pub fn index_of(
     ensures { IfOk result (λ places. IsIndex only_callable exports.now places) }
 {
     let mut places = wanted(alloc, exports, only_callable)?;
-    places.sort_by(|a, b| compare_names(exports, *a, *b))?;
+    places.sort_by(
+        |a: &usize, b: &usize| -> Ordering
+            ensures { result ≡ order exports.entry.now a.now b.now }
+        { compare_names(exports, *a, *b) },
+    )?;
     Ok(Items::from_vec(places))
 }
 
@@ -30,11 +33,21 @@ pub fn address_by(exports: &Items<Export>, places: &Items<usize>, name: &[u8]) -
     requires { IsSortedBy (precedes exports.now) places.now }
     ensures { result ≡ option_map (λ export. export.address) (option_and_then (slice_get exports.now) (find (is_named exports.now name.now) places.now)) }
 {
-    let first = places
-        .as_slice()
-        .partition_point(|place| is_below(exports, *place, name));
+    let first = first_not_below(exports, places.as_slice(), name);
     let export = exports.get(*places.get(first)?)?;
     (export.name.as_slice() == name).then_some(export.address)
+}
+
+/// The first of places in order whose export's name isn't before a name.
+fn first_not_below(exports: &Items<Export>, places: &[usize], name: &[u8]) -> usize
+    requires { IsSortedBy (precedes exports.now) places.now }
+    ensures { SplitsAt exports.now name.now places.now result }
+{
+    places.partition_point(
+        |place: &usize| -> bool
+            ensures { result ≡ is_lt (compared exports.entry.now name.entry.now place.now) }
+        { compare(exports, *place, name).is_lt() },
+    )
 }
 
 /// The places of the exports that are wanted, in their order.
@@ -62,15 +75,16 @@ fn name_at(exports: &Items<Export>, place: usize) -> &[u8]
     }
 }
 
+/// How the names of the exports at two places compare.
 fn compare_names(exports: &Items<Export>, a: usize, b: usize) -> Ordering
-    ensures { result ≡ slice_cmp nat_cmp (name_of_place exports.now a) (name_of_place exports.now b) }
+    ensures { result ≡ order exports.now a b }
 {
-    name_at(exports, a).cmp(&name_at(exports, b))
+    compare(exports, a, name_at(exports, b))
 }
 
-/// The name of the export at a place comes before a name.
-fn is_below(exports: &Items<Export>, place: usize, name: &[u8]) -> bool
-    ensures { result ≡ is_lt (slice_cmp nat_cmp (name_of_place exports.now place) name.now) }
+/// How the name of the export at a place compares with a name.
+fn compare(exports: &Items<Export>, place: usize, name: &[u8]) -> Ordering
+    ensures { result ≡ compared exports.now name.now place }
 {
-    name_at(exports, place).cmp(&name).is_lt()
+    name_at(exports, place).cmp(&name)
 }

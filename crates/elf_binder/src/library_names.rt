@@ -5,6 +5,7 @@ ghost use Rattle.std.specs.List.{list_any};
 ghost use Rattle.elf_binder.specs.Modules.{named, first_spelled as first_of_spellings, spellings, built_in_names};
 
 use crate::module::Module;
+use crate::texts::is_among;
 
 /// The names of the built-in library of the host functions.
 const BUILT_IN_NAMES: [&str; 4] = ["c", "libc", "libc.so", "libc.so.6"];
@@ -24,9 +25,7 @@ pub fn first_spelled(modules: &[Module], name: &[u8]) -> Option<u32>
 pub fn is_built_in(name: &[u8]) -> bool
     ensures { result ≡ list_any (λ built_in. bytes_eq built_in name.now) built_in_names }
 {
-    BUILT_IN_NAMES
-        .iter()
-        .any(|built_in| built_in.as_bytes() == name)
+    is_among(&BUILT_IN_NAMES, name)
 }
 
 /// The number of the first library of a name that is given in three pieces.
