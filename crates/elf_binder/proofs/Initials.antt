@@ -1,7 +1,9 @@
 -- The initializers of a library, one after another.
-use Rattle.std.proofs.Common.{◌≡◌, ℕ, zero, suc, ◌+◌, ◌*◌, ◌/◌, ◌≤◌, Bool, true, false, cond, List, [], ◌∷◌, ◌++◌, length, map, filter, drop, Option, Some, None, Result, Ok, Err, refl, sym, ap, ◌∙◌, append_assoc, arith}
+use Rattle.std.proofs.Common.{◌≡◌, ℕ, zero, suc, ◌+◌, ◌-◌, ◌*◌, ◌/◌, ◌≤◌, Bool, true, false, cond, List, [], ◌∷◌, ◌++◌, length, map, filter, take, drop, Option, Some, None, Result, Ok, Err, refl, sym, ap, ◌∙◌, append_assoc, arith}
 use Rattle.std.specs.List.{range_with_len}
 use Rattle.std.proofs.lemmas.List.FromFn.{filter_of_map_range_with_len_more}
+use Rattle.std.proofs.Math.Seq.{take-length}
+use Rattle.std.proofs.lemmas.List.{length-drop}
 use Rattle.byteorder.specs.Endian.{little_number}
 use Rattle.byte_view.specs.Numbers.{le}
 use Rattle.byte_view.specs.ElfParts as parts
@@ -19,6 +21,10 @@ entries_in array k = filter is_initializer (map (λ k. le array (8 * k) 8) (rang
 filtered : (p : ℕ → Bool) (x : ℕ) (passes : Bool) → p x ≡ passes → cond (p x) (x ∷ []) [] ≡ filter p (x ∷ [])
 filtered p x true is = rw is refl
 filtered p x false is = rw is refl
+
+-- all that stands behind a place
+pub rest_is : (n : ℕ) (xs : List ℕ) → take (length xs - n) (drop n xs) ≡ drop n xs
+rest_is n xs = rw (← length-drop n xs) (take-length (drop n xs))
 
 pub one_entry : (array : List ℕ) (k address : ℕ) (first before after : List ℕ) → before ≡ first ++ entries_in array k → after ≡ before ++ filter is_initializer (address ∷ []) → address ≡ little_number 8 (drop (8 * k) array)
     → after ≡ first ++ entries_in array (k + 1)

@@ -14,3 +14,5 @@ pub mod Initials
 pub mod InScope
 pub mod Exports
 pub mod HostPlaces
+pub mod PlacedLists
+pub mod Phases
