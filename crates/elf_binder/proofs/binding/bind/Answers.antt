@@ -14,13 +14,35 @@ returns-in_err-bases c =
     (refused c.in_err-bases.field-0.0 _ _ (λ d fails. not_placed (sources_from 0 c.args.files.now (map library_of c.args.elfs.now)) c.args.names.now c.args.memory.now d fails) c.in_err-bases.ensures.placed)
 
 pub returns-in_err-relocate_all : goal.returns-in_err-relocate_all
-returns-in_err-relocate_all c = ?
+returns-in_err-relocate_all c =
+    let p = err_from_is_err_and c.from_residual-in_err-relocate_all.result c.from_residual-in_err-relocate_all.ensures.1 in
+    let sources = sources_from 0 c.args.files.now (map library_of c.args.elfs.now) in
+    let placed : ArePlaced sources c.args.names.now c.args.memory.now c.place_all.new.memory c.as_slice-bases.result.now c.in_ok-modules.modules =
+    record { bases = c.in_ok-bases.bases; placing = c.in_ok-bases.ensures.placed; lending = c.as_slice-bases.ensures; naming = c.in_ok-modules.ensures } in
+    rw (p.1, p.2)
+    (refused c.in_err-relocate_all.field-0.0 _ _ (λ d fails. not_relocated sources c.args.names.now c.args.memory.now c.place_all.new.memory c.as_slice-bases.result.now c.in_ok-modules.modules c.as_slice.result.now d placed
+      c.as_slice.ensures fails) c.in_err-relocate_all.ensures)
 
 pub returns-in_err-inits : goal.returns-in_err-inits
-returns-in_err-inits c = ?
+returns-in_err-inits c =
+    let p = err_from_is_err_and c.from_residual-in_err-inits.result c.from_residual-in_err-inits.ensures.1 in
+    let sources = sources_from 0 c.args.files.now (map library_of c.args.elfs.now) in
+    let placed : ArePlaced sources c.args.names.now c.args.memory.now c.place_all.new.memory c.as_slice-bases.result.now c.in_ok-modules.modules =
+    record { bases = c.in_ok-bases.bases; placing = c.in_ok-bases.ensures.placed; lending = c.as_slice-bases.ensures; naming = c.in_ok-modules.ensures } in
+    rw (p.1, p.2)
+    (refused c.in_err-inits.field-0.0 _ _ (λ d fails. not_listed sources c.args.names.now c.args.memory.now c.place_all.new.memory c.relocate_all.new.memory c.as_slice-bases.result.now c.in_ok-modules.modules
+      c.as_slice.result.now d placed c.as_slice.ensures c.in_ok-relocate_all.ensures fails) c.in_err-inits.ensures)
 
 pub new-requires : goal.new-requires
-new-requires c = ?
+new-requires c =
+    let few = few_modules c.args.names.now (zip (sources_from 0 c.args.files.now (map library_of c.args.elfs.now)) c.as_slice-bases.result.now) in
+    rw c.in_ok-modules.ensures (omega (arith, few, c.requires.names, c.requires.few))
 
 pub returns : goal.returns
-returns c = ?
+returns c =
+    let sources = sources_from 0 c.args.files.now (map library_of c.args.elfs.now) in
+    let placed : ArePlaced sources c.args.names.now c.args.memory.now c.place_all.new.memory c.as_slice-bases.result.now c.in_ok-modules.modules =
+    record { bases = c.in_ok-bases.bases; placing = c.in_ok-bases.ensures.placed; lending = c.as_slice-bases.ensures; naming = c.in_ok-modules.ensures } in
+    rw c.new.ensures
+    (all_bound sources c.args.names.now c.args.memory.now c.place_all.new.memory c.relocate_all.new.memory c.as_slice-bases.result.now c.in_ok-modules.modules c.as_slice.result.now c.in_ok-inits.inits placed c.as_slice.ensures
+    c.in_ok-relocate_all.ensures c.in_ok-inits.ensures)
