@@ -1,0 +1,1 @@
+-- Laws of a run of native code.
