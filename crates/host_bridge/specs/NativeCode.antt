@@ -1,5 +1,5 @@
 -- One event of native code: an instruction, or a host function.
-use Rattle.std.specs.Prelude.{ℕ, List, slice_index, Option, Some, None, ◌×◌, ◌==◌, if◌then◌else◌}
+use Rattle.std.specs.Prelude.{ℕ, List, slice_index, Option, Some, None, ◌==◌, if◌then◌else◌}
 use Rattle.native_memory.specs.AddressSpace.{AddressSpace}
 use Rattle.native_heap.specs.HostFunctions.{called}
 use Rattle.rv_machine.specs.declared.outcome.Step.{Step}

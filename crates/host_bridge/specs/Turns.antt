@@ -1,5 +1,5 @@
 -- What the code says of an event of native code.
-use Rattle.std.specs.Prelude.{◌≡◌, ℕ, ◌×◌}
+use Rattle.std.specs.Prelude.{◌≡◌, ℕ}
 use Rattle.native_memory.specs.AddressSpace.{AddressSpace}
 use Rattle.rv_machine.specs.declared.registers.Regs.{Regs}
 use Rattle.host_bridge.specs.declared.native_code.Turn.{Turn}

@@ -1,0 +1,3 @@
+pub mod StepsLaws
+pub mod NativeTurns
+pub mod CallTurns
