@@ -1,3 +1,4 @@
 pub mod StepsLaws
 pub mod NativeTurns
 pub mod CallTurns
+pub mod WholeRuns

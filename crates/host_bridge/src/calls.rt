@@ -31,11 +31,11 @@ pub fn run_calls(
     ensures ok { IfOk result (λ answer. native_run inits.now at words.now fuel first_lane memory.old ≡ record { answer = Ok answer; memory = memory.new }) }
     ensures err { IfErr result (λ ending. EndsBy ending (native_run inits.now at words.now fuel first_lane memory.old) memory.new) }
 {
-    let mut fuel = fuel;
+    let mut left = fuel;
     for init in inits {
-        run_call(alloc, *init, &[], memory, &mut fuel)?;
+        run_call(alloc, *init, &[], memory, &mut left)?;
     }
-    run_call(alloc, at, words, memory, &mut fuel)
+    run_call(alloc, at, words, memory, &mut left)
 }
 
 /// Runs one call from its beginning to its end, and gives a0.
