@@ -1,1 +1,9 @@
+pub mod Refusals
 pub mod Writing
+pub mod Readable
+pub mod Found
+pub mod Moved
+pub mod ReadBack
+pub mod TextsCopied
+pub mod Freed
+pub mod OtherBlocks

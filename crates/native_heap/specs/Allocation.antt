@@ -2,7 +2,6 @@
 -- a block of no bytes is one like others, with a base of its own; a new block holds zeros; `realloc` always moves, places the
 -- new block before the old one ends, and takes 0 for a size like others; `free`, which answers nothing, leaves a0 as it was.
 use Rattle.std.specs.Prelude.{ℕ, ◌*◌, ◌^◌, min, nat_lt, true, false, List, Option, Some, None, option_and_then, if◌then◌else◌, ◌==◌}
-use Rattle.bound_base.specs.declared.limits.Rights.{Rights}
 use Rattle.native_memory.specs.declared.kind.Kind.TheVariants.{Heap}
 use Rattle.native_memory.specs.AddressSpace.{Block, AddressSpace, is_heap}
 use Rattle.native_memory.specs.Ranges.{may_read, bytes_at, written_at}

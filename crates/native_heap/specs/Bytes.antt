@@ -1,13 +1,13 @@
 -- Copying, comparing and filling ranges of bytes (ISO/IEC 9899 7.24). Where that standard leaves room: `memcpy` is `memmove` also
 -- where its ranges overlap; a comparison answers -1, 0 or 1, as a word of 64 bits; a range of no bytes may be anywhere.
-use Rattle.std.specs.Prelude.{ℕ, ◌-◌, ◌%◌, ◌^◌, List, replicate, Some}
+use Rattle.std.specs.Prelude.{ℕ, ◌-◌, ◌%◌, ◌^◌, replicate, Some}
 use Rattle.std.specs.Ordering.{nat_cmp}
 use Rattle.std.specs.declared.cmp.Ordering.{Ordering}
 use Rattle.std.specs.declared.cmp.Ordering.TheVariants.{Less, Equal, Greater}
 use Rattle.std.specs.Cmp.Lexicographic.{slice_cmp}
 use Rattle.native_memory.specs.AddressSpace.{AddressSpace}
 use Rattle.native_memory.specs.Ranges.{may_read, bytes_at, written_at}
-use Rattle.native_heap.specs.Outcome.{Outcome, ◌>>=◌, reading, answering}
+use Rattle.native_heap.specs.Outcome.{Outcome, ◌>>=◌, answering}
 
 -- `memcpy` and `memmove` (7.24.2.1, 7.24.2.2): the bytes that stood at `from` stand at `to`
 unfoldable pub memmove : AddressSpace → ℕ → ℕ → ℕ → Outcome

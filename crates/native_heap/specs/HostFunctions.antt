@@ -1,9 +1,9 @@
 -- The host functions: their numbers and names, and what a call of one comes to.
-use Rattle.std.specs.Prelude.{◌≡◌, ℕ, ◌∷◌, [], List, map, codes, slice_get, slice_index, slice_set, Option, Some, None}
+use Rattle.std.specs.Prelude.{ℕ, ◌∷◌, [], List, map, codes, slice_get, slice_index, slice_set, Option, Some, None}
 use Rattle.native_memory.specs.AddressSpace.{AddressSpace}
 use Rattle.native_heap.specs.declared.functions.HostFunction.{HostFunction}
 use Rattle.native_heap.specs.declared.functions.HostFunction.TheVariants.{Malloc, Calloc, Realloc, Free, Memcpy, Memmove, Memset, Memcmp, Strlen, Strcmp, Strcpy, ErrnoLocation, Abort}
-use Rattle.native_heap.specs.Outcome.{Outcome, ◌>>=◌, reading}
+use Rattle.native_heap.specs.Outcome.{Outcome, ◌>>=◌}
 use Rattle.native_heap.specs.Allocation.{malloc, calloc, realloc, free}
 use Rattle.native_heap.specs.Bytes.{memmove, memset, memcmp}
 use Rattle.native_heap.specs.Texts.{strlen, strcmp, strcpy}

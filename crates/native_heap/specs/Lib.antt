@@ -3,3 +3,4 @@ pub mod Allocation
 pub mod Bytes
 pub mod Texts
 pub mod HostFunctions
+pub mod Laws

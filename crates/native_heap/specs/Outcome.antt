@@ -1,5 +1,5 @@
 -- What a host function comes to.
-use Rattle.std.specs.Prelude.{◌≡◌, ℕ, Option, Some, None, IsSome, option_map, option_and_then}
+use Rattle.std.specs.Prelude.{◌≡◌, ℕ, Option, None, IsSome, option_map, option_and_then}
 use Rattle.native_memory.specs.AddressSpace.{AddressSpace}
 use Rattle.native_heap.specs.declared.refusal.HeapBad.{HeapBad}
 use Rattle.native_heap.specs.declared.refusal.HeapBad.TheVariants.{Fault, Memory}

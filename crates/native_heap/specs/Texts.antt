@@ -41,6 +41,9 @@ readable_in addr (block ∷ rest) =
     then then_more (open_bytes may_read block) (addr - block.base) (readable_in (block.base + block.size) rest)
     else readable_in addr rest
 
+unfoldable pub readable_from : AddressSpace → ℕ → List ℕ
+readable_from space addr = readable_in addr space.blocks
+
 -- texts in order: by the first bytes that differ, equal where both end before; None where the bytes end first
 abbrev pub text_order : List ℕ → List ℕ → Option ℕ
 text_order [] right = None
@@ -51,4 +54,4 @@ text_order (a ∷ left) (b ∷ right) =
 
 -- `strcmp` (7.24.4.2)
 unfoldable pub strcmp : AddressSpace → ℕ → ℕ → Outcome
-strcmp space a b = reading space (text_order (readable_in a space.blocks) (readable_in b space.blocks))
+strcmp space a b = reading space (text_order (readable_from space a) (readable_from space b))

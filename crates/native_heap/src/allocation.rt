@@ -1,8 +1,10 @@
 //! Memory management (ISO/IEC 9899 7.22.3), on heap blocks.
 
-ghost use Rattle.std.specs.Prelude.{◌≡◌, Some, IfOk, IfErr, OnErr, option_map};
+ghost use Rattle.std.specs.Prelude.{◌≡◌, ◌≤◌, length, Some, IfOk, IfErr, IsSome, OnErr, option_map};
+ghost use Rattle.native_memory.specs.Placement.{block_with};
+ghost use Rattle.native_memory.specs.Sound.{IsSound};
 ghost use Rattle.native_heap.specs.Outcome.{Refuses};
-ghost use Rattle.native_heap.specs.Allocation.{malloc, calloc, realloc, free, heap_block};
+ghost use Rattle.native_heap.specs.Allocation.{malloc, calloc, realloc, free, heap_block, heap_placed, moved};
 
 use crate::refusal::HeapBad;
 use bound_base::Rights;
@@ -54,6 +56,7 @@ pub fn realloc(alloc: Global, memory: &mut Memory, p: u64, size: u64) -> Result<
     if p == 0 {
         return malloc(memory, size);
     }
+    memory.blocks_lie_apart();
     let Some(old_size) = heap_size(memory, p) else {
         return Err(HeapBad::Fault);
     };
@@ -61,9 +64,22 @@ pub fn realloc(alloc: Global, memory: &mut Memory, p: u64, size: u64) -> Result<
         return Err(HeapBad::Fault);
     };
     let front = Vec::from_slice(alloc, front)?;
+    replace(memory, p, size, &front)
+}
+
+/// Places a heap block with bytes at its front, and then ends the block at `p`. Where there is no room it answers 0, and that
+/// one lives on.
+fn replace(memory: &mut Memory, p: u64, size: u64, front: &[u8]) -> Result<u64, HeapBad>
+    requires sound { IsSound memory.old }
+    requires live { IsSome (block_with memory.old p) }
+    requires fits { length front.now ≤ size }
+    ensures ok { IfOk result (λ answer. moved memory.old p front.now (heap_placed memory.old size) ≡ Some (answer, memory.new)) }
+    ensures err { IfErr result (λ bad. Refuses bad (moved memory.old p front.now (heap_placed memory.old size))) }
+    ensures unchanged { OnErr result (memory.new ≡ memory.old) }
+{
     match memory.place(size, HEAP, Kind::Heap) {
         Ok(base) => {
-            memory.write(base, &front)?;
+            memory.write(base, front)?;
             memory.end(p);
             Ok(base)
         }

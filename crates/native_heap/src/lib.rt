@@ -5,6 +5,7 @@ mod allocation;
 mod bytes;
 mod calls;
 mod functions;
+pub mod laws;
 mod refusal;
 mod texts;
 

@@ -1,9 +1,9 @@
 //! Texts that end with a zero (ISO/IEC 9899 7.24).
 
-ghost use Rattle.std.specs.Prelude.{◌≡◌, ◌<◌, Some, IfOk, IfErr, OnErr, IfSome, length, position};
+ghost use Rattle.std.specs.Prelude.{◌≡◌, ◌<◌, ◌+◌, ◌^◌, ◌∷◌, [], Some, IfOk, IfErr, OnErr, IfSome, OnSome, MatchOption, length, position};
 ghost use Rattle.std.specs.Option.{option_copied};
 ghost use Rattle.native_heap.specs.Outcome.{Refuses};
-ghost use Rattle.native_heap.specs.Texts.{is_zero, text_at, strlen, strcpy, strcmp};
+ghost use Rattle.native_heap.specs.Texts.{is_zero, text_at, strlen, strcpy, strcmp, readable_from};
 
 use crate::bytes::sign;
 use crate::refusal::HeapBad;
@@ -85,7 +85,12 @@ fn zero_in(bytes: &[u8]) -> Option<usize>
     bytes.iter().position(|byte| *byte == 0)
 }
 
-/// The byte at an address, None where it can't be read.
-fn byte(memory: &Memory, addr: u64) -> Option<u8> {
-    memory.contents(addr, 1)?.first().copied()
+/// The byte at an address, None where it can't be read: the first of those that are readable from there on.
+fn byte(memory: &Memory, addr: u64) -> Option<u8>
+    ensures value { MatchOption result (readable_from memory.now addr ≡ []) (λ byte. readable_from memory.now addr ≡ byte ∷ readable_from memory.now (addr + 1)) }
+    ensures low { OnSome result (addr < 2 ^ 46) }
+{
+    memory.blocks_lie_apart();
+    let bytes = memory.contents(addr, 1)?;
+    Some(bytes[0])
 }
