@@ -28,7 +28,6 @@ pub stands : (regs regs' : Regs) (memory memory' : AddressSpace) (came : Step) �
 stands regs regs' memory memory' came stepped stopped =
     stepped.left ∙ faults_change_nothing (state_of regs memory) (λ went. stopped (stepped.came_to ∙ went))
 
-
 pub same_regs : (regs regs' : Regs) (memory memory' : AddressSpace) → state_of regs' memory' ≡ state_of regs memory → regs' ≡ regs
 same_regs regs regs' memory memory' e = ap (λ (s : State). let r : Regs = record { pc = s.pc; x = s.x } in r) e
 

@@ -24,6 +24,7 @@ steps_add_by : (m n : ℕ) (run : NativeRun) (next : Next) → step run ≡ next
     → Steps (suc m + n) run ≡ Steps n (Steps (suc m) run)
 steps_add_by m n run (Goes run') e more = rw suc-add (steps_go (m + n) run run' e ∙ more run' ∙ ap (Steps n) (sym (steps_go m run run' e)))
 steps_add_by m n run (Stops answer) e more = steps_stopped (suc m + n) run answer e ∙ sym (steps_stopped n run answer e) ∙ ap (Steps n) (sym (steps_stopped (suc m) run answer e))
+
 -- so many events, and so many more
 pub steps_add : (m n : ℕ) (run : NativeRun) → Steps (m + n) run ≡ Steps n (Steps m run)
 steps_add zero n run = rw zero-add (ap (Steps n) (sym (steps_none run)))

@@ -53,7 +53,12 @@ fn run_call(
         return Err(Ending::Spent);
     }
     *fuel -= 1;
-    run_native(alloc, entry_registers(at, STACK_TOP / 16 * 16, words), memory, fuel)
+    run_native(
+        alloc,
+        entry_registers(at, STACK_TOP / 16 * 16, words),
+        memory,
+        fuel,
+    )
 }
 
 /// Runs native code to the end of its call, and gives a0.

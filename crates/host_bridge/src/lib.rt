@@ -7,3 +7,6 @@ mod native_code;
 mod places;
 
 pub use calls::run_calls;
+
+#[cfg(test)]
+mod tests;

@@ -15,10 +15,12 @@ loop-init-preserved c =
     let inits = c.args.inits.now in
     let i = c.loop-init.init-index in
     let function : Call = record { at = c.args.at; words = c.args.words.now } in
-    let before = c.loop-init.invariant.0 in
-    (c.in_ok-run_call.field-0, ran_more _ _ _
-      (waits_at _ _ _ before c.loop-init.memory c.loop-init.left (initializers_from inits i function c.loop-init-test.true) c.loop-init.invariant.1)
-      (c.in_ok-run_call.ensures (map initializer (drop (i + 1) inits) ++ function ∷ []) before))
+    let before = c.loop-init.invariant.0 in (
+      c.in_ok-run_call.field-0,
+      ran_more _ _ _
+          (waits_at _ _ _ before c.loop-init.memory c.loop-init.left (initializers_from inits i function c.loop-init-test.true) c.loop-init.invariant.1)
+          (c.in_ok-run_call.ensures (map initializer (drop (i + 1) inits) ++ function ∷ []) before),
+    )
 
 pub returns-in_err-run_call-clause-err : goal.returns-in_err-run_call-clause-err
 unfolding native_run
@@ -30,8 +32,8 @@ returns-in_err-run_call-clause-err c =
     let p = err_from_is_err_and c.from_residual.result c.from_residual.ensures.1 in
     rw (p.1, p.2)
     (ends_in _ _ _ _
-      (waits_at _ _ _ before c.loop-init.memory c.loop-init.left (initializers_from inits i function c.loop-init-test.true) c.loop-init.invariant.1)
-      (c.in_err-run_call.ensures (map initializer (drop (i + 1) inits) ++ function ∷ []) before))
+    (waits_at _ _ _ before c.loop-init.memory c.loop-init.left (initializers_from inits i function c.loop-init-test.true) c.loop-init.invariant.1)
+    (c.in_err-run_call.ensures (map initializer (drop (i + 1) inits) ++ function ∷ []) before))
 
 pub returns-clause-ok : goal.returns-clause-ok
 unfolding native_run

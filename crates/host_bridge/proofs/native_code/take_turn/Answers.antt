@@ -10,10 +10,10 @@ returns-in-At c =
     let stepped : Stepped regs memory (At c.in-At.place) c.step.new.regs c.step.new.memory = record { came_to = c.in-At.ensures.outcome; left = c.in-At.ensures.state } in
     let same = stands regs c.step.new.regs memory c.step.new.memory (At c.in-At.place) stepped (λ e. cc) in
     turn_before c.turn_at.result _ _ regs c.step.new.regs _ memory c.step.new.memory _
-      (next_is 65536 regs c.step.new.regs memory c.step.new.memory (At c.in-At.place) stepped)
-      (same_regs regs c.step.new.regs memory c.step.new.memory same)
-      (same_memory regs c.step.new.regs memory c.step.new.memory same)
-      c.turn_at.ensures
+    (next_is 65536 regs c.step.new.regs memory c.step.new.memory (At c.in-At.place) stepped)
+    (same_regs regs c.step.new.regs memory c.step.new.memory same)
+    (same_memory regs c.step.new.regs memory c.step.new.memory same)
+    c.turn_at.ensures
 
 pub returns-in-Fault : goal.returns-in-Fault
 returns-in-Fault c =
