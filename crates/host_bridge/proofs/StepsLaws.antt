@@ -5,6 +5,7 @@ use Rattle.bound_base.specs.declared.ending.Ending.{Ending}
 use Rattle.native_memory.specs.AddressSpace.{AddressSpace}
 use Rattle.host_bridge.specs.NativeRun.{NativeRun, Next, Goes, Stops, step, after, Steps, Outcome, ending_of, outcome}
 use Rattle.host_bridge.specs.Runs.{Ran, Ends}
+use Rattle.host_bridge.specs.Laws.{EndedRunsStay}
 
 -- by what comes of a state
 steps_go : (n : ℕ) (run run' : NativeRun) → step run ≡ Goes run' → Steps (suc n) run ≡ Steps n run'
@@ -67,3 +68,6 @@ outcome_of run answer memory ends =
     ap outcome (ends_last run ends.last answer ends.ran ends.stops)
     ∙ ap (λ next. let o : Outcome = record { answer = ending_of next; memory = ends.last.memory } in o) ends.stops
     ∙ ap (λ m. let o : Outcome = record { answer = answer; memory = m } in o) ends.at_end
+
+pub ended_runs_stay : EndedRunsStay
+ended_runs_stay run answer n stops = steps_stopped n run answer stops

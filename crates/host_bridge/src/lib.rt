@@ -3,6 +3,7 @@
 
 mod calls;
 mod entry;
+pub mod laws;
 mod native_code;
 mod places;
 
