@@ -54,7 +54,7 @@ pub moves : (run new : NativeRun) → step run ≡ Goes new → Moves run new
 unfolding step
 moves run new e = chosen_moves run new run.native run.calls refl refl e
 
-chosen_at : (run : NativeRun) (native : Option Regs) (calls : List Call) → run.native ≡ native → run.calls ≡ calls → step run ≡ chosen run native calls
+pub chosen_at : (run : NativeRun) (native : Option Regs) (calls : List Call) → run.native ≡ native → run.calls ≡ calls → step run ≡ chosen run native calls
 unfolding step
 chosen_at run native calls is waits = ap (λ (n : Option Regs). chosen run n run.calls) is ∙ ap (chosen run native) waits
 

@@ -5,3 +5,9 @@ pub mod WholeRuns
 pub mod HostPlaces
 pub mod FaultPlaces
 pub mod Events
+pub mod RunEnds
+pub mod Halts
+pub mod Simulations
+pub mod MoreFuel
+pub mod AnswersApart
+pub mod FirstCalls

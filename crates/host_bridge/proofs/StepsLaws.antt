@@ -8,7 +8,7 @@ use Rattle.host_bridge.specs.Runs.{Ran, Ends}
 use Rattle.host_bridge.specs.Laws.{EndedRunsStay}
 
 -- by what comes of a state
-steps_go : (n : ℕ) (run run' : NativeRun) → step run ≡ Goes run' → Steps (suc n) run ≡ Steps n run'
+pub steps_go : (n : ℕ) (run run' : NativeRun) → step run ≡ Goes run' → Steps (suc n) run ≡ Steps n run'
 unfolding Steps
 steps_go n run run' e = ap (after (Steps n) run) e
 
@@ -17,7 +17,7 @@ unfolding Steps
 steps_stopped zero run answer e = refl
 steps_stopped (suc n) run answer e = ap (after (Steps n) run) e
 
-steps_none : (run : NativeRun) → Steps zero run ≡ run
+pub steps_none : (run : NativeRun) → Steps zero run ≡ run
 unfolding Steps
 steps_none run = refl
 
@@ -55,7 +55,7 @@ pub ends_after : (old mid : NativeRun) (answer : Result ℕ Ending) (memory : Ad
 ends_after old mid answer memory a b = record { last = b.last; ran = ran_more old mid b.last a b.ran; stops = b.stops; at_end = b.at_end }
 
 -- as many events as there is fuel lead to where it stops
-ends_last : (run last : NativeRun) (answer : Result ℕ Ending) → Ran run last → step last ≡ Stops answer → Steps run.fuel run ≡ last
+pub ends_last : (run last : NativeRun) (answer : Result ℕ Ending) → Ran run last → step last ≡ Stops answer → Steps run.fuel run ≡ last
 ends_last run last answer ran stops =
     ap (λ n. Steps n run) (let fuel : run.fuel ≡ ran.n + last.fuel = omega arith in fuel)
     ∙ steps_add ran.n last.fuel run
