@@ -18,7 +18,7 @@ use std::alloc::Global;
 ///
 /// Each instruction and each host function is one event, and so are the beginning and the end of each call. `Spent` comes where as
 /// many events as `fuel` don't end the run. `InitFault` comes where an instruction or a host function faults before that, and
-/// names its address. `Memory` is for want of memory; memory is then as some event left it, or as the want did.
+/// names its address. With either, `memory` is as the last event left it. `Memory` is for want of memory.
 pub fn run_calls(
     alloc: Global,
     inits: &[u64],

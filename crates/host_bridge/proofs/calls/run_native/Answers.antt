@@ -9,17 +9,17 @@ loop-fuel-init c = λ rest before. ran_none _
 pub loop-fuel-preserved : goal.loop-fuel-preserved
 loop-fuel-preserved c = λ rest before.
     ran_more _ _ _ (c.loop-fuel.invariant rest before)
-    (goes_on c.loop-fuel.regs c.take_turn.new.regs rest before c.loop-fuel.memory c.take_turn.new.memory c.loop-fuel.fuel c.loop-fuel-test.true c.in-Went.ensures)
+    (goes_on c.loop-fuel.regs c.take_turn.new.regs rest before c.loop-fuel.memory c.take_turn.new.memory c.loop-fuel.fuel (omega arith) c.in-Went.ensures)
 
 pub returns-in-Returned : goal.returns-in-Returned
 returns-in-Returned c = λ rest before.
     ran_more _ _ _ (c.loop-fuel.invariant rest before)
-    (call_returns c.loop-fuel.regs c.take_turn.new.regs rest before c.loop-fuel.memory c.take_turn.new.memory c.loop-fuel.fuel c.loop-fuel-test.true c.in-Returned.ensures)
+    (call_returns c.loop-fuel.regs c.take_turn.new.regs rest before c.loop-fuel.memory c.take_turn.new.memory c.loop-fuel.fuel (omega arith) c.in-Returned.ensures)
 
 pub returns-in-Faulted : goal.returns-in-Faulted
 returns-in-Faulted c = λ rest before.
     ends_after _ _ _ _ (c.loop-fuel.invariant rest before)
-    (call_faults c.loop-fuel.regs c.take_turn.new.regs rest before c.loop-fuel.memory c.take_turn.new.memory c.loop-fuel.fuel c.in-Faulted.pc c.loop-fuel-test.true c.in-Faulted.ensures)
+    (call_faults c.loop-fuel.regs c.take_turn.new.regs rest before c.loop-fuel.memory c.take_turn.new.memory c.loop-fuel.fuel c.in-Faulted.pc (omega arith) c.in-Faulted.ensures)
 
 pub returns : goal.returns
 returns c = λ rest before.
