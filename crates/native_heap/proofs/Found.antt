@@ -1,5 +1,5 @@
 -- What a search finds in a list of blocks that grows or changes.
-use Rattle.std.proofs.Common.{◌≡◌, ℕ, suc, ◌≤◌, ◌<◌, length, Bool, true, false, cond, List, [], ◌∷◌, ◌++◌, map, Some, arith, refl}
+use Rattle.std.proofs.Common.{◌≡◌, ℕ, suc, ◌≤◌, Bool, true, false, cond, List, [], ◌∷◌, ◌++◌, map, Some, arith, refl}
 use Rattle.std.specs.Prelude.{All, is_some, option_map}
 use Rattle.std.specs.List.{find}
 use Rattle.native_memory.specs.AddressSpace.{Block}

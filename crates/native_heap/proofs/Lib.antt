@@ -7,3 +7,4 @@ pub mod ReadBack
 pub mod TextsCopied
 pub mod Freed
 pub mod OtherBlocks
+pub mod CallsKeep

@@ -1,19 +1,15 @@
 -- A range reads as what was written to it.
-use Rattle.std.proofs.Common.{◌≡◌, ◌∙◌, ℕ, ◌+◌, ◌-◌, ◌≤◌, ◌<◌, ◌≢◌, nat_eq, nat_le, Bool, true, false, cond, ◌&&◌, if◌then◌else◌, List, [], ◌∷◌, ◌++◌, length, take, drop, Option, Some, None, arith, refl, sym, append_assoc}
+use Rattle.std.proofs.Common.{◌≡◌, ◌∙◌, ℕ, ◌+◌, ◌-◌, ◌≤◌, nat_eq, Bool, true, false, cond, if◌then◌else◌, List, [], ◌++◌, length, take, drop, Option, Some, None, arith, refl, sym, append_assoc}
 use Rattle.std.specs.Prelude.{All, is_some, IsSome, option_map, option_and_then}
 use Rattle.std.specs.List.{find}
 use Rattle.std.proofs.Math.Seq.{drop-append_seam, take-append_seam}
 use Rattle.std.proofs.lemmas.List.{length-take, length-drop, nil_from_length}
 use Rattle.std.proofs.lemmas.Bool.Decides.{nat_tests}
-use Rattle.bound_base.specs.declared.limits.Rights.{Rights}
 use Rattle.native_memory.specs.declared.kind.Kind.{Kind}
-use Rattle.native_memory.specs.AddressSpace.{Block, AddressSpace, lowest, changed}
-use Rattle.native_memory.specs.Ranges.{covers, may_read, may_write, open_bytes, part, bytes_at, rest_at, overwritten, write_in, with_written, written_at}
-use Rattle.native_memory.specs.Placement.{edge_of}
-use Rattle.native_memory.specs.Sound.{HasItsBytes, IsWhole, LieBetween, IsSound}
-use Rattle.native_memory.specs.Laws.{Writes}
+use Rattle.native_memory.specs.AddressSpace.{Block, AddressSpace, changed}
+use Rattle.native_memory.specs.Ranges.{covers, may_read, may_write, open_bytes, part, bytes_at, overwritten, write_in, with_written, written_at}
+use Rattle.native_memory.specs.Sound.{HasItsBytes, IsWhole, IsSound}
 use Rattle.native_memory.proofs.Kept.{changed_keeps, writes_keep}
-use Rattle.native_memory.proofs.Reached.{follows_on}
 use Rattle.native_heap.specs.Outcome.{◌>>=◌, answering}
 use Rattle.native_heap.specs.Bytes.{memmove}
 use Rattle.native_heap.specs.Laws.{CopiesReadTheSame}

@@ -18,7 +18,7 @@ pub answering_done : (answer : ℕ) (change : Option AddressSpace) → IsSome ch
 answering_done answer None some = some
 answering_done answer (Some new) some = refl
 
-some_pair : {A B : Type 0} (p q : A × B) → Some p ≡ Some q → p ≡ q
+pub some_pair : {A B : Type 0} (p q : A × B) → Some p ≡ Some q → p ≡ q
 some_pair p q is = cc
 
 -- of a change that was answered

@@ -1,5 +1,5 @@
 -- The host functions: their numbers and names, and what a call of one comes to.
-use Rattle.std.specs.Prelude.{ℕ, ◌∷◌, [], List, map, codes, slice_get, slice_index, slice_set, Option, Some, None}
+use Rattle.std.specs.Prelude.{ℕ, ◌∷◌, [], List, map, codes, slice_get, slice_index, slice_set, Option, Some, None, option_map}
 use Rattle.native_memory.specs.AddressSpace.{AddressSpace}
 use Rattle.native_heap.specs.declared.functions.HostFunction.{HostFunction}
 use Rattle.native_heap.specs.declared.functions.HostFunction.TheVariants.{Malloc, Calloc, Realloc, Free, Memcpy, Memmove, Memset, Memcmp, Strlen, Strcmp, Strcpy, ErrnoLocation, Abort}
@@ -49,10 +49,13 @@ outcome Strcpy a b c space errno = strcpy space a b
 outcome ErrnoLocation a b c space errno = Some (errno, space)
 outcome Abort a b c space errno = None
 
+-- the registers with an answer in a0, which is x10, and memory after it
+abbrev pub returned : List ℕ → (ℕ × AddressSpace) → (List ℕ × AddressSpace)
+returned x done = (slice_set x 10 done.0, done.1)
+
 -- A call of the host function of a number (RISC-V psABI, Integer Calling Convention): its arguments stand in a0, a1 and a2, which
 -- are x10, x11 and x12, and its answer goes to a0. All other registers stay. None where it faults.
 unfoldable pub called : ℕ → List ℕ → AddressSpace → ℕ → Option (List ℕ × AddressSpace)
 called k x space errno = do
   function ← slice_get host_functions k
-  (answer, new) ← outcome function (slice_index x 10) (slice_index x 11) (slice_index x 12) space errno
-  Some (slice_set x 10 answer, new)
+  option_map (returned x) (outcome function (slice_index x 10) (slice_index x 11) (slice_index x 12) space errno)

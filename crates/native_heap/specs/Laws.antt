@@ -1,5 +1,5 @@
 -- Laws of the host functions.
-use Rattle.std.specs.Prelude.{◌≡◌, ◌≢◌, ℕ, false, not, List, length, map, replicate, slice_get, Option, Some, None, IsSome, All, option_map, if◌then◌else◌}
+use Rattle.std.specs.Prelude.{◌≡◌, ◌≢◌, ℕ, false, not, List, length, map, replicate, slice_index, Option, Some, None, IsSome, All, option_map}
 use Rattle.std.specs.List.{filter}
 use Rattle.bound_base.specs.declared.limits.Rights.{Rights}
 use Rattle.native_memory.specs.declared.kind.Kind.{Kind}
@@ -57,7 +57,7 @@ other_blocks space = map outline (filter (λ block. not (is_heap block)) space.b
 -- a call changes no register but a0, and places, ends and changes no block but heap blocks, apart from contents
 pub record KeepsOthers (x x' : List ℕ) (old new : AddressSpace) : Type 0 where
   pub count : length x' ≡ length x
-  pub registers : (number : ℕ) → number ≢ 10 → slice_get x' number ≡ slice_get x number
+  pub registers : (number : ℕ) → number ≢ 10 → slice_index x' number ≡ slice_index x number
   pub blocks : other_blocks new ≡ other_blocks old
 
 abbrev pub CallsKeepOthers : Type 0
