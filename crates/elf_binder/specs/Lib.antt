@@ -4,4 +4,5 @@ pub mod Loading
 pub mod Relocating
 pub mod Binding
 pub mod Refusals
-pub mod Exports
+pub mod Index
+pub mod Laws
