@@ -4,19 +4,22 @@ use Rattle.bound_base.specs.declared.ending.Ending.{Ending}
 use Rattle.bound_base.specs.declared.ending.Ending.TheVariants.{Spent}
 use Rattle.bound_base.specs.declared.limits.Lane.{Lane}
 use Rattle.native_memory.specs.AddressSpace.{AddressSpace}
-use Rattle.native_heap.specs.HostFunctions.{host_functions}
+use Rattle.native_heap.specs.HostFunctions as heap
+use Rattle.elf_binder.specs.Modules as binder
 use Rattle.rv_machine.specs.declared.registers.Regs.{Regs}
-use Rattle.host_bridge.specs.Places.{host_place, host_number}
+use Rattle.host_bridge.specs.Places.{host_number}
 use Rattle.host_bridge.specs.NativeCode.{Faults, native_next}
 use Rattle.host_bridge.specs.NativeRun.{NativeRun, Goes, Stops, step, Steps, Outcome, native_run}
 
 -- each host function is found at its place, and at no other
 pub record StandsAt (place k : ℕ) : Type 0 where
-  pub found : k < length host_functions → place ≡ host_place k → host_number place ≡ Some k
-  pub only : host_number place ≡ Some k → (k < length host_functions) × (place ≡ host_place k)
+  pub found : k < length heap.host_functions → place ≡ binder.host_place k → host_number place ≡ Some k
+  pub only : host_number place ≡ Some k → (k < length heap.host_functions) × (place ≡ binder.host_place k)
 
-abbrev pub HostFunctionsHavePlaces : Type 0
-HostFunctionsHavePlaces = (place k : ℕ) → StandsAt place k
+-- and a library that names it is led there: the binder has the same names in the same order
+pub record HostFunctionsHavePlaces : Type 0 where
+  pub places : (place k : ℕ) → StandsAt place k
+  pub names : binder.host_names ≡ heap.host_names
 
 -- a fault of native code names its pc
 abbrev pub FaultsNameTheirPlace : Type 0

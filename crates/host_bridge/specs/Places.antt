@@ -1,16 +1,13 @@
 -- The places of code that isn't in memory, and the blocks that native code is entered with.
-use Rattle.std.specs.Prelude.{ℕ, ◌+◌, ◌-◌, ◌*◌, ◌/◌, nat_lt, ◌&&◌, ◌==◌, length, Option, Some, None, if◌then◌else◌}
+use Rattle.std.specs.Prelude.{ℕ, ◌+◌, ◌-◌, ◌/◌, nat_lt, ◌&&◌, ◌==◌, length, Option, Some, None, if◌then◌else◌}
 use Rattle.bound_base.specs.declared.limits.Lane.{Lane}
 use Rattle.bound_base.specs.Limits.{standard}
 use Rattle.native_heap.specs.HostFunctions.{host_functions}
+use Rattle.elf_binder.specs.Modules.{host_place}
 
 -- where native code returns to when it is done
 abbrev pub return_place : ℕ
 return_place = 0x100
-
--- where a host function stands, by its number
-abbrev pub host_place : ℕ → ℕ
-host_place k = 0x200 + 16 * k
 
 -- the number of the host function that stands at a place
 abbrev pub host_number : ℕ → Option ℕ

@@ -2,7 +2,8 @@
 
 ghost use Rattle.host_bridge.specs.Laws.{HostFunctionsHavePlaces, FaultsNameTheirPlace, EventsTakeFuel, RunsEnd, EndedRunsStay, MoreFuelIsTheSame, InitializersComeFirst};
 
-/// Each host function is found at its place, 0x200 and 16 bytes on for each one before it, and at no other.
+/// Each host function is found at its place, 0x200 and 16 bytes on for each one before it, and at no other; its name leads a
+/// library there.
 pub fn host_functions_have_places()
     ensures { HostFunctionsHavePlaces }
 {}

@@ -6,8 +6,10 @@ mod entry;
 pub mod laws;
 mod native_code;
 mod places;
+mod symbol;
 
 pub use calls::run_calls;
+pub use symbol::run_symbol;
 
 #[cfg(test)]
 mod tests;
