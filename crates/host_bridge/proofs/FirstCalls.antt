@@ -62,7 +62,7 @@ goes_on init inits at words fuel more lane memory after last ran done left =
     let waits : last.calls ++ rest ≡ rest = ap (λ (calls : List Call). calls ++ rest) done.calls in
     let there : it.other' ≡ record next { answer = last.answer } = it.beside.is ∙ between rest more last next waits done.native it.beside.has left in
     let along : Ends (record next { answer = last.answer }) end.answer end.memory =
-      ends_alike next (record next { answer = last.answer }) end.answer end.memory (Apart last.answer (due inits function next refl refl)) end.ends in
+    ends_alike next (record next { answer = last.answer }) end.answer end.memory (Apart last.answer (due inits function next refl refl)) end.ends in
     let from : Ends it.other' end.answer end.memory = subst (λ (r : NativeRun). Ends r end.answer end.memory) (sym there) along in
     outcome_of (extended rest more first) end.answer end.memory (ends_after (extended rest more first) it.other' end.answer end.memory it.ran from)
     ∙ sym (outcome_of next end.answer end.memory end.ends)
@@ -70,6 +70,7 @@ goes_on init inits at words fuel more lane memory after last ran done left =
     between : (rest : List Call) (more : ℕ) (last next : NativeRun) → last.calls ++ rest ≡ next.calls → last.native ≡ next.native → last.lane ≡ next.lane → last.memory ≡ next.memory
         → extended rest more last ≡ record next { answer = last.answer; fuel = last.fuel + more }
     between rest more last next calls native lane memory = cc
+
     due : (inits : List ℕ) (function : Call) (run : NativeRun) → run.native ≡ None → run.calls ≡ map initializer inits ++ function ∷ [] → Pending run
     due [] function run native calls = Before function [] native calls
     due (init ∷ inits) function run native calls = Before (initializer init) (map initializer inits ++ function ∷ []) native calls
@@ -98,9 +99,12 @@ gives init inits at words fuel lane memory answer after is =
     let last : NativeRun = end.ends.last in
     let done : Done last = done_of last end.answer answer (same_answer first end (Ok answer) after is) (halts last end.answer end.ends.stops) in
     let two : 2 ≤ end.ends.ran.n = two_events end.ends.ran.n first last refl done end.ends.ran.state (λ e. cc) in
-    let fuels : fuel ≡ last.fuel + end.ends.ran.n = end.ends.ran.fuel in
-    (last.fuel, omega arith, λ more.
-      goes_on init inits at words fuel more lane memory after last end.ends.ran done (end.ends.at_end ∙ same_memory first end (Ok answer) after is))
+    let fuels : fuel ≡ last.fuel + end.ends.ran.n = end.ends.ran.fuel in (
+      last.fuel,
+      omega arith,
+      λ more.
+          goes_on init inits at words fuel more lane memory after last end.ends.ran done (end.ends.at_end ∙ same_memory first end (Ok answer) after is),
+    )
 
 ends : (init : ℕ) (inits : List ℕ) (at : ℕ) (words : List ℕ) (fuel : ℕ) (lane : Lane) (memory : AddressSpace) (ending : Ending) (after : AddressSpace)
     → native_run [] init [] fuel lane memory ≡ record { answer = Err ending; memory = after }
@@ -114,7 +118,7 @@ ends init inits at words fuel lane memory ending after is =
     let last : NativeRun = end.ends.last in
     let gives_err : end.answer ≡ Err ending = same_answer first end (Err ending) after is in
     let there : Ends (extended rest 0 first) end.answer end.memory =
-      ends_extended rest 0 first end.answer end.memory end.ends (err_halts rest last end.answer ending gives_err (halts last end.answer end.ends.stops)) in
+    ends_extended rest 0 first end.answer end.memory end.ends (err_halts rest last end.answer ending gives_err (halts last end.answer end.ends.stops)) in
     let whole : outcome (Steps (fuel + 0) (start (init ∷ inits) at words (fuel + 0) lane memory)) ≡ record { answer = end.answer; memory = end.memory } = outcome_of (extended rest 0 first) end.answer end.memory there in
     subst (λ (n : ℕ). outcome (Steps n (start (init ∷ inits) at words n lane memory)) ≡ record { answer = Err ending; memory = after }) (add-zero fuel)
     (whole ∙ sym (outcome_of first end.answer end.memory end.ends) ∙ is)

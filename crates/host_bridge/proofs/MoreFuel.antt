@@ -36,7 +36,7 @@ more_fuel inits at words fuel more lane memory end other =
     let run : NativeRun = start inits at words fuel lane memory in
     let last : NativeRun = end.ends.last in
     let ends : Ends (extended [] more run) end.answer end.memory =
-      ends_extended [] more run end.answer end.memory end.ends (fueled_halts more last end.answer other (halts last end.answer end.ends.stops)) in
+    ends_extended [] more run end.answer end.memory end.ends (fueled_halts more last end.answer other (halts last end.answer end.ends.stops)) in
     let function : Call = record { at = at; words = words } in
     let same : (map initializer inits ++ function ∷ []) ++ [] ≡ map initializer inits ++ function ∷ [] = append-nil _ in
     subst (λ (calls : List Call). outcome (Steps (fuel + more) (record (start inits at words (fuel + more) lane memory) { calls = calls })) ≡ record { answer = end.answer; memory = end.memory }) same

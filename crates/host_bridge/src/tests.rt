@@ -4,7 +4,7 @@ ghost use Rattle.std.specs.Prelude.{◌≤◌, length};
 
 use crate::run_calls;
 use bound_base::{Ending, Rights};
-use native_memory::{Kind, Memory, PlaceBad};
+use native_memory::{Fault, Kind, Memory};
 use std::alloc::Global;
 use std::test::Fail;
 
@@ -44,30 +44,33 @@ const LOAD: [u32; 2] = [0x0012_02B7, 0x0402_A303];
 const STORE: u32 = 0x0462_A023;
 
 /// Memory with the first blocks, and a segment that begins with zeros and has code at 0x120100, 0x120200 and 0x120300.
-fn memory_with(alloc: Global, codes: [&[u32]; 3]) -> Result<Memory, PlaceBad> {
+fn memory_with(alloc: Global, codes: [&[u32]; 3]) -> Result<Memory, Fail> {
     let mut memory = Memory::new(alloc, 1 << 24);
     memory.place(4, DATA, Kind::Errno)?;
     memory.place(1 << 20, DATA, Kind::Stack)?;
-    memory.place_at(CODE, &[], SIZE, ALL)?;
-    let mut at = CODE;
-    for code in codes {
-        at += 0x100;
-        let mut to = at;
-        for word in code {
-            let _ = memory.write(to, &word.to_le_bytes());
-            to += 4;
-        }
+    if CODE < memory.edge() {
+        Err("the segment is behind its place")?;
     }
+    memory.place_at(CODE, &[], SIZE, ALL)?;
+    let [first, second, third] = codes;
+    write_code(&mut memory, CODE + 0x100, first)?;
+    write_code(&mut memory, CODE + 0x200, second)?;
+    write_code(&mut memory, CODE + 0x300, third)?;
     Ok(memory)
 }
 
+/// Writes instructions from an address on.
+fn write_code(memory: &mut Memory, at: u64, code: &[u32]) -> Result<(), Fault> {
+    let mut to = at;
+    for word in code {
+        memory.write(to, &word.to_le_bytes())?;
+        to = to.wrapping_add(4);
+    }
+    Ok(())
+}
+
 /// What the function at 0x120100 gives.
-fn given(
-    alloc: Global,
-    code: &[u32],
-    words: &[u64],
-    fuel: u64,
-) -> Result<Result<u64, Ending>, PlaceBad>
+fn given(alloc: Global, code: &[u32], words: &[u64], fuel: u64) -> Result<Result<u64, Ending>, Fail>
     requires { length words.now ≤ 8 }
 {
     let mut memory = memory_with(alloc, [code, &[], &[]])?;
