@@ -29,3 +29,6 @@ pub use laws::{
 pub use module::{Export, Module, is_defined};
 pub use refusal::BindBad;
 pub use scope::address_of;
+
+#[cfg(test)]
+mod tests;
