@@ -30,7 +30,8 @@ build:
 test:
 	.ci/run
 
-# Timings. Give PLHOST=PROGRAM to time another build than build/plhost.
+# Timings. Give PLHOST=PROGRAM to time another build than build/plhost, and NATIVE_BENCH=PROGRAM another than the one that
+# bench/native proves and builds.
 bench: $(if $(PLHOST),,build)
 	bench/imports
 	bench/native

@@ -1,6 +1,7 @@
 /* A plain peer for `bench/native`: native memory as a list of blocks in order of their bases, searched by bisection, and a
- * machine for RV64IM over it, which fetches and decodes at each step. For the words `steps` and `reads BLOCKS READS` it
- * does what native_bench does, and prints the same line. */
+ * machine for RV64IM over it, which fetches and decodes at each step. It decodes every instruction, not just those of the
+ * loop, so that a step costs what it costs a whole machine. For the words `steps` and `reads BLOCKS READS` it does what
+ * native_bench does, and prints the same line. It takes a host whose lowest byte comes first. */
 #include <stdbool.h>
 #include <stdint.h>
 #include <stdio.h>
@@ -183,7 +184,7 @@ static bool op_immediate_32(uint32_t word, uint64_t a, uint64_t *value) {
     }
 }
 
-static uint64_t multiplied(uint32_t funct3, uint64_t a, uint64_t b) {
+static uint64_t multiplied_or_divided(uint32_t funct3, uint64_t a, uint64_t b) {
     int64_t x = (int64_t)a, y = (int64_t)b;
     bool overflows = x == INT64_MIN && y == -1;
     switch (funct3) {
@@ -201,7 +202,7 @@ static uint64_t multiplied(uint32_t funct3, uint64_t a, uint64_t b) {
 static bool op(uint32_t word, uint64_t a, uint64_t b, uint64_t *value) {
     uint32_t funct3 = bits(word, 12, 3), funct7 = bits(word, 25, 7);
     if (funct7 == 1) {
-        *value = multiplied(funct3, a, b);
+        *value = multiplied_or_divided(funct3, a, b);
         return true;
     }
     if (funct7 == 0x20) {
@@ -300,7 +301,7 @@ static bool step(struct registers *registers, struct memory *memory) {
 
 /* The loop, which native_bench/src/steps.rt explains. */
 static const uint32_t LOOP[] = {
-    0x03F5F293, /* andi a1, 63 into t0 */
+    0x03F5F293, /* andi t0, a1, 63 */
     0x00329293, /* slli t0, t0, 3 */
     0x002282B3, /* add  t0, t0, sp */
     0x0002B303, /* ld   t1, 0(t0) */
@@ -327,7 +328,7 @@ static void steps(void) {
     printf("%d steps, a0 %016llx\n", STEPS, (unsigned long long)registers.x[A0]);
 }
 
-static void reads(uint64_t blocks, uint64_t reads) {
+static void read_among(uint64_t blocks, uint64_t reads) {
     struct memory memory = {.next = 65536};
     uint64_t first = memory.next, sum = 0;
     for (uint64_t number = 0; number < blocks; number++) {
@@ -349,7 +350,7 @@ int main(int count, char **words) {
     if (count == 2 && !strcmp(words[1], "steps"))
         steps();
     else if (count == 4 && !strcmp(words[1], "reads"))
-        reads(strtoull(words[2], NULL, 10), strtoull(words[3], NULL, 10));
+        read_among(strtoull(words[2], NULL, 10), strtoull(words[3], NULL, 10));
     else
         fail("no such mode");
     return 0;
