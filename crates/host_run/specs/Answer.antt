@@ -25,11 +25,15 @@ abbrev pub imports_of : Result Metadata Broken → Answer
 imports_of (Ok m) = record { status = 0; out = imports_text m; err = [] }
 imports_of (Err broken) = refused 204 (bad_image_line broken.0 broken.1)
 
--- `imports` of a file by its name and, where it is held, its contents
+-- a command on one file, by what its bytes are answered by, its name and, where it is held, its contents
+abbrev pub file_answer : (List ℕ → Answer) → List ℕ → Option (List ℕ) → Answer
+file_answer answer_of name None = refused 202 (absent_line name)
+file_answer answer_of name (Some bytes) =
+    if nat_lt file_limit (length bytes) then refused 212 (too_large_line name) else answer_of bytes
+
+-- `imports` of a file
 abbrev pub imports_answer : List ℕ → Option (List ℕ) → Answer
-imports_answer name None = refused 202 (absent_line name)
-imports_answer name (Some bytes) =
-    if nat_lt file_limit (length bytes) then refused 212 (too_large_line name) else imports_of (assembly bytes)
+imports_answer name = file_answer (λ bytes. imports_of (assembly bytes)) name
 
 -- a command that isn't built is answered as words outside the grammar
 abbrev pub answer_to : Option Command → Files → Answer

@@ -4,5 +4,5 @@ pub mod Grammar
 pub mod GrammarLaws
 pub mod Imports
 pub mod Outcome
-pub mod Refusals
+pub mod Stops
 pub mod Texts

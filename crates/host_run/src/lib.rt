@@ -8,6 +8,8 @@ mod laws;
 mod numbers;
 mod options;
 mod refusal;
+mod stop;
+mod texts;
 mod top_call;
 mod words;
 

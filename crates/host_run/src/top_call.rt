@@ -9,9 +9,10 @@ ghost use Rattle.host_run.specs.Texts.{memory_line};
 ghost use Rattle.host_run.specs.declared.command.Command.TheVariants.{Imports};
 
 use crate::command::{Command, Word};
-use crate::files::{FileError, read_file};
+use crate::files::read_file;
 use crate::imports::put_imports_of;
-use crate::refusal::{Refusal, put_line};
+use crate::refusal::Refusal;
+use crate::stop::{Stop, file_stop, put_line};
 use crate::words::read_words;
 use bound_base::{Sink, Store};
 use std::alloc::Global;
@@ -66,26 +67,26 @@ pub fn host<S: Store, O: Sink, E: Sink>(
     settle(alloc, carried, err)
 }
 
-/// The exit status, behind the line of a refusal.
-fn settle<E: Sink>(alloc: Global, carried: Result<(), Refusal>, err: &mut E) -> u8
+/// The exit status, behind the line of a call that stopped.
+fn settle<E: Sink>(alloc: Global, carried: Result<(), Stop>, err: &mut E) -> u8
     ensures settled { IsSettled carried result (E.contents err.old) (E.contents err.new)
         (E.faults err.old) (E.faults err.new) }
     ensures count { E.faults err.old ≤ E.faults err.new }
 {
     match carried {
         Ok(()) => 0,
-        Err(Refusal::SinkFailed) => 210,
-        Err(refusal) => put_line(alloc, &refusal, err),
+        Err(Stop::SinkFailed) => 210,
+        Err(stop) => put_line(alloc, &stop, err),
     }
 }
 
-/// Does what the words ask for, but for a refusal's line.
+/// Does what the words ask for, but for the line of a call that stops.
 fn carry_out<S: Store, O: Sink>(
     alloc: Global,
     words: &[String],
     store: &mut S,
     out: &mut O,
-) -> Result<(), Refusal>
+) -> Result<(), Stop>
     ensures meets { ForFilesOf (S.held store.old) (λ files.
         Meets (answer (texts words.now) files) result (O.contents out.old) (O.contents out.new)) }
     ensures unreadable { IfUnreadable (command (texts words.now)) result
@@ -98,17 +99,17 @@ fn carry_out<S: Store, O: Sink>(
 {
     match read_words(alloc, words)? {
         Some(command) => obey(alloc, command, store, out),
-        None => Err(Refusal::Usage),
+        None => Err(Stop::Refused(Refusal::Usage)),
     }
 }
 
-/// Does what a command asks for, but for a refusal's line.
+/// Does what a command asks for, but for the line of a call that stops.
 fn obey<S: Store, O: Sink>(
     alloc: Global,
     command: Command,
     store: &mut S,
     out: &mut O,
-) -> Result<(), Refusal>
+) -> Result<(), Stop>
     ensures meets { ForFilesOf (S.held store.old) (λ files.
         Meets (answer_to (Some command) files) result (O.contents out.old) (O.contents out.new)) }
     ensures unreadable { IfUnreadable (Some command) result
@@ -121,10 +122,10 @@ fn obey<S: Store, O: Sink>(
 {
     match command {
         Command::Imports(file) => imports(alloc, file, store, out),
-        Command::Stubs(_) => Err(Refusal::Usage),
-        Command::Native(..) => Err(Refusal::Usage),
-        Command::Run(_) => Err(Refusal::Usage),
-        Command::Drill(_) => Err(Refusal::Usage),
+        Command::Stubs(_) => Err(Stop::Refused(Refusal::Usage)),
+        Command::Native(..) => Err(Stop::Refused(Refusal::Usage)),
+        Command::Run(_) => Err(Stop::Refused(Refusal::Usage)),
+        Command::Drill(_) => Err(Stop::Refused(Refusal::Usage)),
     }
 }
 
@@ -134,7 +135,7 @@ fn imports<S: Store, O: Sink>(
     file: Word,
     store: &mut S,
     out: &mut O,
-) -> Result<(), Refusal>
+) -> Result<(), Stop>
     ensures meets { ForFilesOf (S.held store.old) (λ files.
         Meets (imports_answer file (files file)) result (O.contents out.old) (O.contents out.new)) }
     ensures unreadable { IfUnreadable (Some (Imports file)) result
@@ -147,9 +148,6 @@ fn imports<S: Store, O: Sink>(
 {
     match read_file(alloc, file.as_str(), store) {
         Ok(bytes) => put_imports_of(alloc, bytes.as_slice(), out),
-        Err(FileError::Absent) => Err(Refusal::Absent(file)),
-        Err(FileError::Failed) => Err(Refusal::Unreadable(file)),
-        Err(FileError::TooLarge) => Err(Refusal::TooLarge(file)),
-        Err(FileError::Memory) => Err(Refusal::Memory),
+        Err(error) => Err(file_stop(file, error)),
     }
 }
