@@ -7,3 +7,4 @@ pub mod Fronts
 pub mod Images
 pub mod Outcomes
 pub mod Contents
+pub mod Digits

@@ -1,4 +1,5 @@
 pub mod Answer
+pub mod FileNames
 pub mod Files
 pub mod Grammar
 pub mod GrammarLaws

@@ -2,6 +2,7 @@
 #![tactic(auto)]
 
 mod command;
+mod file_names;
 mod files;
 mod imports;
 mod laws;
