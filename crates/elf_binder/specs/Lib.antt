@@ -1,7 +1,9 @@
 pub mod Steps
 pub mod Modules
+pub mod Index
 pub mod Loading
 pub mod Relocating
 pub mod Binding
 pub mod Refusals
-pub mod Exports
+pub mod Sources
+pub mod Laws

@@ -2,12 +2,7 @@
 use Rattle.std.specs.Prelude.{ℕ, ◌+◌, ◌*◌, ◌%◌, ◌^◌, Bool, ◌&&◌, ◌||◌, not, ◌==◌, List, [], ◌∷◌, ◌++◌, length, map, filter, find, position, codes, bytes_eq, slice_get, Option, Some, None, option_map, option_and_then, if◌then◌else◌}
 use Rattle.std.specs.List.{list_any}
 use Rattle.byte_view.specs.ElfSymbols.{Symbol}
-
--- a name that a library defines: its address, and whether it may be called
-pub record Export : Type 0 where
-  pub name : List ℕ
-  pub address : ℕ
-  pub callable : Bool
+use Rattle.elf_binder.specs.declared.module.Export.{Export}
 
 -- a library in memory: its name, and what it defines, in the order of its symbols
 pub record Module : Type 0 where
@@ -83,7 +78,7 @@ abbrev pub spellings : List ℕ → List (List ℕ)
 spellings name = name ∷ (name ++ codes ".so") ∷ (codes "lib" ++ name ++ codes ".so") ∷ (codes "lib" ++ name) ∷ []
 
 -- the first library of just this name
-abbrev pub named : List Module → List ℕ → Option ℕ
+unfoldable pub named : List Module → List ℕ → Option ℕ
 named modules name = position (λ m. bytes_eq m.name name) modules
 
 -- by the first spelling that a library has
@@ -109,7 +104,7 @@ library_named modules name =
 
 -- the address of a name that may be called, in one library: its first export of the name that may be
 unfoldable pub callable_in : List ℕ → Module → Option ℕ
-callable_in name m = option_map (λ export. export.address) (find (λ export. has_name name export && export.callable) m.exports)
+callable_in name m = option_map (λ export. export.address) (find (λ export. export.callable && has_name name export) m.exports)
 
 -- the address of a name that may be called, by the number of a library
 unfoldable pub symbol_in : List Module → ℕ → List ℕ → Option ℕ

@@ -2,11 +2,33 @@
 //! Dynamic Linking'; RISC-V psABI).
 #![tactic(auto)]
 
+mod binding;
 mod bound;
+mod host_names;
+mod index;
+mod initializers;
+mod laws;
+mod library_names;
+mod loading;
 mod module;
 mod refusal;
+mod relocating;
 mod relocation;
+mod scope;
+mod source;
+mod symbol_values;
+mod texts;
 
+pub use binding::bind;
 pub use bound::Bound;
-pub use module::{Export, Module};
+pub use host_names::host_address;
+pub use laws::{
+    first_library_counts, host_functions_lie_apart, inner_symbols_export_nothing,
+    names_stay_defined, own_names_come_first,
+};
+pub use module::{Export, Module, is_defined};
 pub use refusal::BindBad;
+pub use scope::address_of;
+
+#[cfg(test)]
+mod tests;
