@@ -1,0 +1,11 @@
+pub mod Refusals
+pub mod Writing
+pub mod Readable
+pub mod Found
+pub mod Moved
+pub mod ReadBack
+pub mod TextsCopied
+pub mod Freed
+pub mod OtherBlocks
+pub mod CallsKeep
+pub mod Names
