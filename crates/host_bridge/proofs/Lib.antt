@@ -1,0 +1,13 @@
+pub mod StepsLaws
+pub mod NativeTurns
+pub mod CallTurns
+pub mod WholeRuns
+pub mod HostPlaces
+pub mod FaultPlaces
+pub mod Events
+pub mod RunEnds
+pub mod Halts
+pub mod Simulations
+pub mod MoreFuel
+pub mod AnswersApart
+pub mod FirstCalls
