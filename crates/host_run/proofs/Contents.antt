@@ -10,7 +10,8 @@ use Rattle.host_run.specs.declared.stop.Stop.{Stop}
 use Rattle.host_run.specs.declared.stop.Stop.TheVariants.{Refused, Memory}
 use Rattle.host_run.specs.declared.command.Command.{Command}
 use Rattle.host_run.specs.Files.{IsWhole, CountsFile, file_limit}
-use Rattle.host_run.specs.Answer.{Answer, file_answer, answer_to, refused, ReadsNext}
+use Rattle.host_run.specs.Answer.{Answer, file_answer, refused}
+use Rattle.host_run.specs.Commands.{answer_to, ReadsNext}
 use Rattle.host_run.specs.Texts.{too_large_line, usage_line}
 use Rattle.host_run.specs.Stops.{file_stop}
 use Rattle.host_run.specs.Outcome.{Meets, IfUnreadable, CountsSink, CountsStore, ForFilesOf}

@@ -9,10 +9,9 @@ use Rattle.byte_view.specs.Reading.{Broken, ◌>>=◌}
 use Rattle.byte_view.specs.Headers.{Headers, headers}
 use Rattle.byte_view.specs.Metadata.{Metadata}
 use Rattle.byte_view.specs.Assembly.{assembly, metadata}
-use Rattle.host_run.specs.Answer.{imports_of}
 use Rattle.host_run.specs.Outcome.{Meets}
 use Rattle.host_run.specs.Stops.{image_stop, put_stop}
-use Rattle.host_run.specs.Imports.{imports_text}
+use Rattle.host_run.specs.Imports.{imports_text, imports_of}
 use Rattle.host_run.specs.declared.stop.PutError.{PutError}
 use Rattle.host_run.specs.declared.stop.PutError.TheVariants as put
 use Rattle.host_run.proofs.Puts.{front-none}

@@ -8,3 +8,4 @@ pub mod Images
 pub mod Outcomes
 pub mod Contents
 pub mod Digits
+pub mod StartMemory

@@ -4,11 +4,12 @@ use Rattle.std.specs.Prelude.{⊤, ◌≢◌}
 use Rattle.bound_base.specs.Outside.{Files, Rose, appended, AppendsFront}
 use Rattle.host_run.specs.declared.command.Command.{Command}
 use Rattle.host_run.specs.declared.refusal.Refusal.{Refusal}
-use Rattle.host_run.specs.declared.refusal.Refusal.TheVariants.{Usage, Absent, TooLarge, BadImage}
+use Rattle.host_run.specs.declared.refusal.Refusal.TheVariants.{Usage, Absent, TooLarge, BadImage, BadLibrary, NoSymbol, FuelSpent, NativeFault}
 use Rattle.host_run.specs.declared.stop.Stop.{Stop}
 use Rattle.host_run.specs.declared.stop.Stop.TheVariants.{Refused, Unreadable, Memory, SinkFailed}
 use Rattle.host_run.specs.Grammar.{command}
-use Rattle.host_run.specs.Answer.{Answer, answer}
+use Rattle.host_run.specs.Answer.{Answer}
+use Rattle.host_run.specs.Commands.{answer}
 use Rattle.host_run.specs.Texts.{memory_line}
 use Rattle.host_run.specs.Outcome.{Meets, ReadsNothing, IfUnreadable, CountsSink, CountsStore, ForFilesOf, IsPrinted, IsSettled, GivesAnswer, CouldNotRead, GotFrontOfLine, refusal_status, refusal_answer, stop_status, stop_line}
 use Rattle.host_run.proofs.Puts.{append-nil, appended-nil, front-none}
@@ -24,6 +25,10 @@ own-status Usage = record { read = omega arith; put = omega arith; memory = omeg
 own-status (Absent name) = record { read = omega arith; put = omega arith; memory = omega arith }
 own-status (TooLarge name) = record { read = omega arith; put = omega arith; memory = omega arith }
 own-status (BadImage part at) = record { read = omega arith; put = omega arith; memory = omega arith }
+own-status (BadLibrary name part at) = record { read = omega arith; put = omega arith; memory = omega arith }
+own-status (NoSymbol name) = record { read = omega arith; put = omega arith; memory = omega arith }
+own-status FuelSpent = record { read = omega arith; put = omega arith; memory = omega arith }
+own-status (NativeFault pc) = record { read = omega arith; put = omega arith; memory = omega arith }
 
 -- a call that reads no file doesn't fail by one
 pub unreadable-never : (c : Option Command) (r : Result ⊤ Stop) (before after : ℕ) (old new : Option (List ℕ)) → ReadsNothing r → IfUnreadable c r before after old new

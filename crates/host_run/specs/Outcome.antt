@@ -1,16 +1,18 @@
 -- What a call did to the streams, by how it ended.
 use Rattle.std.specs.Prelude.{Some, None, ◌≡◌, ◌⊎◌, ℕ, List, Option, Result, Ok, Err, ⊤, []}
 use Rattle.bound_base.specs.Outside.{Files, Rose, appended, AppendsFront}
-use Rattle.bound_base.specs.Image.{part_place}
+use Rattle.bound_base.specs.Image as image
+use Rattle.elf_reader.specs.Refusals as library
 use Rattle.host_run.specs.declared.command.Command.{Command}
 use Rattle.host_run.specs.declared.refusal.Refusal.{Refusal}
-use Rattle.host_run.specs.declared.refusal.Refusal.TheVariants.{Usage, Absent, TooLarge, BadImage}
+use Rattle.host_run.specs.declared.refusal.Refusal.TheVariants.{Usage, Absent, TooLarge, BadImage, BadLibrary, NoSymbol, FuelSpent, NativeFault}
 use Rattle.host_run.specs.declared.stop.Stop.{Stop}
 use Rattle.host_run.specs.declared.stop.Stop.TheVariants.{Refused, Unreadable, Memory, SinkFailed}
 use Rattle.host_run.specs.declared.stop.PutError.{PutError}
 use Rattle.host_run.specs.declared.stop.PutError.TheVariants as put
-use Rattle.host_run.specs.Answer.{Answer, refused, ReadsNext}
-use Rattle.host_run.specs.Texts.{usage_line, absent_line, unreadable_line, too_large_line, bad_image_line, memory_line}
+use Rattle.host_run.specs.Answer.{Answer, done, refused}
+use Rattle.host_run.specs.Commands.{ReadsNext}
+use Rattle.host_run.specs.Texts.{usage_line, absent_line, unreadable_line, too_large_line, bad_image_line, bad_library_line, no_symbol_line, fuel_line, native_fault_line, memory_line, number_line}
 
 -- the status of a refusal
 abbrev pub refusal_status : Refusal → ℕ
@@ -18,13 +20,21 @@ refusal_status Usage = 201
 refusal_status (Absent name) = 202
 refusal_status (TooLarge name) = 212
 refusal_status (BadImage part at) = 204
+refusal_status (BadLibrary name part at) = 205
+refusal_status (NoSymbol name) = 214
+refusal_status FuelSpent = 208
+refusal_status (NativeFault pc) = 213
 
 -- the line of a refusal
 abbrev pub refusal_line : Refusal → List ℕ
 refusal_line Usage = usage_line
 refusal_line (Absent name) = absent_line name
 refusal_line (TooLarge name) = too_large_line name
-refusal_line (BadImage part at) = bad_image_line (part_place part) at
+refusal_line (BadImage part at) = bad_image_line (image.part_place part) at
+refusal_line (BadLibrary name part at) = bad_library_line name (library.part_place part) at
+refusal_line (NoSymbol name) = no_symbol_line name
+refusal_line FuelSpent = fuel_line
+refusal_line (NativeFault pc) = native_fault_line pc
 
 -- what is answered by a refusal
 abbrev pub refusal_answer : Refusal → Answer
@@ -62,6 +72,14 @@ Meets a (Err (Refused refusal)) old new = (a ≡ refusal_answer refusal) × (new
 Meets a (Err (Unreadable name)) old new = new ≡ old
 Meets a (Err Memory) old new = AppendsFront old new a.out
 Meets a (Err SinkFailed) old new = AppendsFront old new a.out
+
+-- A number is the answer's text, or a refusal is the answer. Want of memory is free, and nothing else comes of it.
+abbrev pub IsResult : Answer → Result ℕ Stop → Type 0
+IsResult a (Ok number) = a ≡ done (number_line number)
+IsResult a (Err (Refused refusal)) = a ≡ refusal_answer refusal
+IsResult a (Err (Unreadable name)) = ⊥
+IsResult a (Err Memory) = ⊤
+IsResult a (Err SinkFailed) = ⊥
 
 -- a file couldn't be read: it is the command's, the store counted it, and out got nothing
 abbrev pub IfUnreadable : Option Command → Result ⊤ Stop → ℕ → ℕ → Option (List ℕ) → Option (List ℕ) → Type 0

@@ -4,8 +4,7 @@ ghost use Rattle.std.specs.Prelude.{◌≡◌, ◌≤◌, ◌∷◌, ◌++◌, [
 ghost use Rattle.std.specs.Option.{option_copied};
 ghost use Rattle.bound_base.specs.Outside.{Rose};
 ghost use Rattle.byte_view.specs.Assembly.{assembly};
-ghost use Rattle.host_run.specs.Imports.{name_at as name_in, module_name as module_of, import_line, imports_text};
-ghost use Rattle.host_run.specs.Answer.{imports_of};
+ghost use Rattle.host_run.specs.Imports.{name_at as name_in, module_name as module_of, import_line, imports_text, imports_of};
 ghost use Rattle.host_run.specs.Outcome.{Puts, CountsPut, Meets, ReadsNothing, CountsSink};
 ghost use Rattle.bound_base.specs.Names.{escaped};
 

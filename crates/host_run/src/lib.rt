@@ -6,6 +6,7 @@ mod file_names;
 mod files;
 mod imports;
 mod laws;
+mod native;
 mod numbers;
 mod options;
 mod refusal;

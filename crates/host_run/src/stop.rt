@@ -2,13 +2,14 @@
 
 ghost use Rattle.std.specs.Prelude.{◌≡◌, ◌≤◌, IfOk};
 ghost use Rattle.host_run.specs.Outcome.{stop_status, stop_line, IsPrinted};
-ghost use Rattle.host_run.specs.Stops.{file_stop as stop_of};
+ghost use Rattle.host_run.specs.Stops.{file_stop as stop_of_file, library_stop as stop_of_library, run_stop as stop_of_run};
 
 use crate::command::Word;
 use crate::files::FileError;
 use crate::refusal::Refusal;
 use crate::texts::{copy_of, line_on};
-use bound_base::{BadImage, Bytes, NoMemory, Sink, SinkFault};
+use bound_base::{BadImage, Bytes, Ending, NoMemory, Sink, SinkFault};
+use elf_reader::ElfBad;
 use std::alloc::{AllocError, Global};
 
 /// Why nothing more is done.
@@ -99,13 +100,38 @@ impl From<NoMemory> for Stop {
 
 /// Why the file of a word wasn't read.
 pub fn file_stop(file: Word, error: FileError) -> Stop
-    ensures { result ≡ stop_of file error }
+    ensures { result ≡ stop_of_file file error }
 {
     match error {
         FileError::Absent => Stop::Refused(Refusal::Absent(file)),
         FileError::Failed => Stop::Unreadable(file),
         FileError::TooLarge => Stop::Refused(Refusal::TooLarge(file)),
         FileError::Memory => Stop::Memory,
+    }
+}
+
+/// Why a library isn't bound.
+pub fn library_stop(library: Word, error: ElfBad) -> Stop
+    ensures { result ≡ stop_of_library library error }
+{
+    match error {
+        ElfBad::BadElf { part, at } => Stop::Refused(Refusal::BadLibrary {
+            name: library,
+            part,
+            at,
+        }),
+        ElfBad::Memory => Stop::Memory,
+    }
+}
+
+/// Why a run of native code has no number: its fuel is spent, it faulted, or there is no memory for it.
+pub fn run_stop(ending: Ending) -> Stop
+    ensures { result ≡ stop_of_run ending }
+{
+    match ending {
+        Ending::Spent => Stop::Refused(Refusal::FuelSpent),
+        Ending::InitFault(pc) => Stop::Refused(Refusal::NativeFault(pc)),
+        _ => Stop::Memory,
     }
 }
 

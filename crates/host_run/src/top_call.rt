@@ -3,7 +3,8 @@
 ghost use Rattle.std.specs.Prelude.{◌≡◌, ◌≢◌, ◌⊎◌, ◌≤◌, Some};
 ghost use Rattle.bound_base.specs.Outside.{appended, AppendsFront, Rose};
 ghost use Rattle.host_run.specs.Grammar.{command, texts};
-ghost use Rattle.host_run.specs.Answer.{answer, answer_to, imports_answer};
+ghost use Rattle.host_run.specs.Commands.{answer, answer_to, imports_answer};
+ghost use Rattle.host_run.specs.GrammarLaws.{KeepsBounds};
 ghost use Rattle.host_run.specs.Outcome.{Meets, IfUnreadable, CountsSink, CountsStore, ForFilesOf, IsSettled, GivesAnswer, CouldNotRead, GotFrontOfLine};
 ghost use Rattle.host_run.specs.Texts.{memory_line};
 ghost use Rattle.host_run.specs.declared.command.Command.TheVariants.{Imports};
@@ -11,6 +12,7 @@ ghost use Rattle.host_run.specs.declared.command.Command.TheVariants.{Imports};
 use crate::command::{Command, Word};
 use crate::files::read_file;
 use crate::imports::put_imports_of;
+use crate::native::native;
 use crate::refusal::Refusal;
 use crate::stop::{Stop, file_stop, put_line};
 use crate::words::read_words;
@@ -110,6 +112,7 @@ fn obey<S: Store, O: Sink>(
     store: &mut S,
     out: &mut O,
 ) -> Result<(), Stop>
+    requires { KeepsBounds command }
     ensures meets { ForFilesOf (S.held store.old) (λ files.
         Meets (answer_to (Some command) files) result (O.contents out.old) (O.contents out.new)) }
     ensures unreadable { IfUnreadable (Some command) result
@@ -123,7 +126,7 @@ fn obey<S: Store, O: Sink>(
     match command {
         Command::Imports(file) => imports(alloc, file, store, out),
         Command::Stubs(_) => Err(Stop::Refused(Refusal::Usage)),
-        Command::Native(..) => Err(Stop::Refused(Refusal::Usage)),
+        Command::Native(lib, symbol, numbers) => native(alloc, lib, symbol, &numbers, store, out),
         Command::Run(_) => Err(Stop::Refused(Refusal::Usage)),
         Command::Drill(_) => Err(Stop::Refused(Refusal::Usage)),
     }

@@ -1,7 +1,7 @@
 use Rattle.std.proofs.Common.{rules, refl, ap, Err, Some}
 use Rattle.host_run.specs.declared.command.Command.TheVariants.{Imports}
 use Rattle.byte_view.specs.Assembly.{assembly}
-use Rattle.host_run.specs.Answer.{imports_of}
+use Rattle.host_run.specs.Imports.{imports_of}
 use Rattle.host_run.proofs.Contents.{whole-read, failed-read, failed-counted, failed-uncounted, failed-unput}
 use Rattle.host_run.proofs.Outcomes.{unreadable-never}
 use Rattle.host_run.proofs.top_call.imports.Goals as goal
