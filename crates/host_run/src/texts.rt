@@ -52,9 +52,9 @@ pub fn bad_library_line(
     ensures { IfOk result (λ line. line ≡ broken_library name.now (library.part_place part) at) }
 {
     let place = format!(in alloc; ": {part} at {at}\n")?;
-    let name = escape(alloc, name.as_bytes())?;
+    let printed_name = escape(alloc, name.as_bytes())?;
     let mut line = copy_of(alloc, b"plhost: bad library ")?;
-    line.extend_from_slice(name.as_slice())?;
+    line.extend_from_slice(printed_name.as_slice())?;
     line.extend_from_slice(place.as_bytes())?;
     Ok(line)
 }

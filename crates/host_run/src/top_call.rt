@@ -22,8 +22,9 @@ use std::alloc::Global;
 /// Does all that plhost does: reads the words (without the program's name) and the files that they name, and puts output
 /// on `out`. Answers the exit status, and puts the line that says why on `err` where it isn't 0 or 210: 201 for words that
 /// aren't a line of the grammar or whose command isn't built, 202 where the file isn't there, 203 where a read failed, 204
-/// where the file isn't an assembly, 210 where a put failed (nothing is put after it), 211 for want of memory, 212 where
-/// the file has more than 67,108,864 bytes.
+/// where the file isn't an assembly, 205 where it isn't a library or can't be bound, 208 where the fuel of native code is
+/// spent, 210 where a put failed (nothing is put after it), 211 for want of memory, 212 where the file has more than
+/// 67,108,864 bytes, 213 where native code faulted, 214 where the library doesn't define the symbol.
 pub fn host<S: Store, O: Sink, E: Sink>(
     alloc: Global,
     words: &[String],
