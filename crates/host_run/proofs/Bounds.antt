@@ -1,11 +1,11 @@
 -- What the line grammar finds keeps its bounds.
-use Rattle.std.proofs.Common.{◌≡◌, ℕ, ◌+◌, ◌-◌, ◌^◌, ◌≤◌, Bool, true, cond, eqb, List, [], ◌∷◌, ◌++◌, length, suc, Option, Some, None, ap, refl, arith, lit≤, codes}
+use Rattle.std.proofs.Common.{◌≡◌, ℕ, ◌+◌, ◌-◌, ◌^◌, ◌≤◌, Bool, true, cond, eqb, List, [], ◌∷◌, ◌++◌, length, suc, Option, Some, None, sym, ◌∙◌, ap, subst, refl, arith, lit≤, codes}
 use Rattle.std.proofs.lemmas.Bool.{cond_both, false≢true, and_parts, ltb-true, leb-true, eqb-false, not-true}
 use Rattle.std.specs.Prelude.{IfSome, option_map, option_and_then, unwrap_or, min, is_none, bytes_eq, nat_lt, nat_le, ◌&&◌}
 use Rattle.std.specs.List.{position_or_len, before_first, after_first, list_all}
 use Rattle.std.specs.Char.{is_digit}
 use Rattle.std.specs.Str.Parse.{digits_value}
-use Rattle.host_run.specs.Grammar.{names_file, number, after, lone_file, drill, word_value, values, native, no_words, with_lib, with_fuel, with_report, with_log, with_file, with_option, with_word, said_by, said_whole, is_end, fits_program, run}
+use Rattle.host_run.specs.Grammar.{names_file, number, after, lone_file, drill, word_value, values, native, command, no_words, with_lib, with_fuel, with_report, with_log, with_file, with_option, with_word, said_by, said_whole, is_end, fits_program, run}
 use Rattle.host_run.specs.GrammarLaws.{IsFileName, KeepsBounds, CommandsKeepBounds}
 use Rattle.host_run.specs.declared.command.Command.{Command}
 use Rattle.host_run.specs.declared.command.Command.TheVariants.{Imports, Stubs, Native, Run, Drill}
@@ -203,3 +203,7 @@ commands_keep_bounds (name ∷ rest) =
     cond_either (bytes_eq name (codes "stubs")) (option_map Stubs (lone_file rest)) from_native KeepsBounds (map_keeps Stubs (lone_file rest) IsFileName KeepsBounds (lone_file_named rest) (λ _ h. h)) at_native
     in
     cond_either (bytes_eq name (codes "imports")) (option_map Imports (lone_file rest)) from_stubs KeepsBounds (map_keeps Imports (lone_file rest) IsFileName KeepsBounds (lone_file_named rest) (λ _ h. h)) at_stubs
+
+-- a command that words ask for keeps its bounds
+pub bounds-kept : (words : List (List ℕ)) (found : Option Command) (c : Command) → found ≡ command words → found ≡ Some c → KeepsBounds c
+bounds-kept words found c e is = let P : Option Command → Type 0 = λ o. IfSome o KeepsBounds in subst P (sym e ∙ is) (commands_keep_bounds words)

@@ -9,12 +9,11 @@ use Rattle.byte_view.specs.Reading.{Broken, ◌>>=◌}
 use Rattle.byte_view.specs.Headers.{Headers, headers}
 use Rattle.byte_view.specs.Metadata.{Metadata}
 use Rattle.byte_view.specs.Assembly.{assembly, metadata}
-use Rattle.host_run.specs.Answer.{imports_of}
 use Rattle.host_run.specs.Outcome.{Meets}
-use Rattle.host_run.specs.Refusals.{image_refusal, put_refusal}
-use Rattle.host_run.specs.Imports.{imports_text}
-use Rattle.host_run.specs.declared.refusal.PutError.{PutError}
-use Rattle.host_run.specs.declared.refusal.PutError.TheVariants as put
+use Rattle.host_run.specs.Stops.{image_stop, put_stop}
+use Rattle.host_run.specs.Imports.{imports_text, imports_of}
+use Rattle.host_run.specs.declared.stop.PutError.{PutError}
+use Rattle.host_run.specs.declared.stop.PutError.TheVariants as put
 use Rattle.host_run.proofs.Puts.{front-none}
 
 -- a part that is broken in the first step is broken in the whole
@@ -31,7 +30,7 @@ unfolding assembly
 refuses-metadata (Bad part at) bytes h read refused = ap (λ x. x >>= (λ y. metadata bytes y.meta_at y.meta_size)) read ∙ refused
 refuses-metadata Memory bytes h read refused = tt
 
-pub meets-refused : (e : BadImage) (a : Result Metadata Broken) (t : Option (List ℕ)) → Refuses e a → Meets (imports_of a) (Err (image_refusal e)) t t
+pub meets-refused : (e : BadImage) (a : Result Metadata Broken) (t : Option (List ℕ)) → Refuses e a → Meets (imports_of a) (Err (image_stop e)) t t
 meets-refused (Bad part at) a t h = (ap imports_of h, refl)
 meets-refused Memory a t h = front-none t t (imports_of a).out refl
 
@@ -45,6 +44,6 @@ pub meets-imports : (a : Result Metadata Broken) (m : Metadata) (x : ⊤) (old n
 meets-imports a m x old new e put = let P : Result Metadata Broken → Type 0 = λ r. Meets (imports_of r) (Ok x) old new in subst P (sym e) (refl, refl, put)
 
 pub meets-stopped : (e : PutError) (a : Result Metadata Broken) (m : Metadata) (old new : Option (List ℕ)) → a ≡ Ok m → AppendsFront old new (imports_text m)
-    → Meets (imports_of a) (Err (put_refusal e)) old new
+    → Meets (imports_of a) (Err (put_stop e)) old new
 meets-stopped put.Memory a m old new e front = let P : Result Metadata Broken → Type 0 = λ r. AppendsFront old new (imports_of r).out in subst P (sym e) front
 meets-stopped put.SinkFailed a m old new e front = let P : Result Metadata Broken → Type 0 = λ r. AppendsFront old new (imports_of r).out in subst P (sym e) front

@@ -7,3 +7,5 @@ pub mod Fronts
 pub mod Images
 pub mod Outcomes
 pub mod Contents
+pub mod Digits
+pub mod StartMemory

@@ -4,7 +4,7 @@ use Rattle.std.specs.Prelude.{⊤, slice_get}
 use Rattle.std.specs.List.{flat_map}
 use Rattle.std.proofs.lemmas.List.Concat.{flat_map-append}
 use Rattle.bound_base.specs.Outside.{appended, AppendsFront}
-use Rattle.host_run.specs.declared.refusal.PutError.{PutError}
+use Rattle.host_run.specs.declared.stop.PutError.{PutError}
 use Rattle.host_run.specs.Outcome.{Puts}
 use Rattle.byte_view.specs.Metadata.{Metadata, table_of, row_of}
 

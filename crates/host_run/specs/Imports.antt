@@ -1,9 +1,12 @@
--- What `imports` prints: a line for each row of the ImplMap table (ECMA-335 II.22.22).
-use Rattle.std.specs.Prelude.{ℕ, List, [], ◌∷◌, ◌++◌, slice_index, Option, Some, None, unwrap_or}
+-- What `imports` answers: a line for each row of the ImplMap table (ECMA-335 II.22.22).
+use Rattle.std.specs.Prelude.{ℕ, List, [], ◌∷◌, ◌++◌, slice_index, Option, Some, None, Result, Ok, Err, unwrap_or}
 use Rattle.std.specs.List.{flat_map}
 use Rattle.bound_base.specs.Names.{escaped}
+use Rattle.byte_view.specs.Reading.{Broken}
 use Rattle.byte_view.specs.Heaps.{text_at}
 use Rattle.byte_view.specs.Metadata.{Metadata, table_of, row_of}
+use Rattle.host_run.specs.Answer.{Answer, done, refused}
+use Rattle.host_run.specs.Texts.{bad_image_line}
 
 abbrev pub module_ref : ℕ
 module_ref = 0x1A
@@ -31,3 +34,8 @@ import_line m row =
 
 unfoldable pub imports_text : Metadata → List ℕ
 imports_text m = flat_map (import_line m) (table_of m impl_map)
+
+-- the imports of an assembly, or its first broken part
+abbrev pub imports_of : Result Metadata Broken → Answer
+imports_of (Ok m) = done (imports_text m)
+imports_of (Err broken) = refused 204 (bad_image_line broken.0 broken.1)

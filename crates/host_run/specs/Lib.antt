@@ -1,8 +1,11 @@
 pub mod Answer
+pub mod Commands
+pub mod FileNames
 pub mod Files
 pub mod Grammar
 pub mod GrammarLaws
 pub mod Imports
+pub mod Native
 pub mod Outcome
-pub mod Refusals
+pub mod Stops
 pub mod Texts

@@ -4,12 +4,11 @@ ghost use Rattle.std.specs.Prelude.{◌≡◌, ◌≤◌, ◌∷◌, ◌++◌, [
 ghost use Rattle.std.specs.Option.{option_copied};
 ghost use Rattle.bound_base.specs.Outside.{Rose};
 ghost use Rattle.byte_view.specs.Assembly.{assembly};
-ghost use Rattle.host_run.specs.Imports.{name_at as name_in, module_name as module_of, import_line, imports_text};
-ghost use Rattle.host_run.specs.Answer.{imports_of};
+ghost use Rattle.host_run.specs.Imports.{name_at as name_in, module_name as module_of, import_line, imports_text, imports_of};
 ghost use Rattle.host_run.specs.Outcome.{Puts, CountsPut, Meets, ReadsNothing, CountsSink};
 ghost use Rattle.bound_base.specs.Names.{escaped};
 
-use crate::refusal::{PutError, Refusal};
+use crate::stop::{PutError, Stop};
 use bound_base::{Sink, escape};
 use meta_tables::{Meta, read_meta};
 use pe_reader::read_pe;
@@ -20,7 +19,7 @@ const MODULE_REF: u8 = 0x1A;
 const IMPL_MAP: u8 = 0x1C;
 
 /// Puts the imports of an assembly, or says which of its parts is broken.
-pub fn put_imports_of<O: Sink>(alloc: Global, bytes: &[u8], out: &mut O) -> Result<(), Refusal>
+pub fn put_imports_of<O: Sink>(alloc: Global, bytes: &[u8], out: &mut O) -> Result<(), Stop>
     ensures meets { Meets (imports_of (assembly bytes.now)) result (O.contents out.old) (O.contents out.new) }
     ensures no_read { ReadsNothing result }
     ensures counted { CountsSink result (O.faults out.old) (O.faults out.new) }

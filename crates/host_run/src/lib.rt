@@ -2,12 +2,16 @@
 #![tactic(auto)]
 
 mod command;
+mod file_names;
 mod files;
 mod imports;
 mod laws;
+mod native;
 mod numbers;
 mod options;
 mod refusal;
+mod stop;
+mod texts;
 mod top_call;
 mod words;
 

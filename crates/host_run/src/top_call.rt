@@ -3,15 +3,18 @@
 ghost use Rattle.std.specs.Prelude.{◌≡◌, ◌≢◌, ◌⊎◌, ◌≤◌, Some};
 ghost use Rattle.bound_base.specs.Outside.{appended, AppendsFront, Rose};
 ghost use Rattle.host_run.specs.Grammar.{command, texts};
-ghost use Rattle.host_run.specs.Answer.{answer, answer_to, imports_answer};
+ghost use Rattle.host_run.specs.Commands.{answer, answer_to, imports_answer};
+ghost use Rattle.host_run.specs.GrammarLaws.{KeepsBounds};
 ghost use Rattle.host_run.specs.Outcome.{Meets, IfUnreadable, CountsSink, CountsStore, ForFilesOf, IsSettled, GivesAnswer, CouldNotRead, GotFrontOfLine};
 ghost use Rattle.host_run.specs.Texts.{memory_line};
 ghost use Rattle.host_run.specs.declared.command.Command.TheVariants.{Imports};
 
 use crate::command::{Command, Word};
-use crate::files::{FileError, read_file};
+use crate::files::read_file;
 use crate::imports::put_imports_of;
-use crate::refusal::{Refusal, put_line};
+use crate::native::native;
+use crate::refusal::Refusal;
+use crate::stop::{Stop, file_stop, put_line};
 use crate::words::read_words;
 use bound_base::{Sink, Store};
 use std::alloc::Global;
@@ -19,8 +22,9 @@ use std::alloc::Global;
 /// Does all that plhost does: reads the words (without the program's name) and the files that they name, and puts output
 /// on `out`. Answers the exit status, and puts the line that says why on `err` where it isn't 0 or 210: 201 for words that
 /// aren't a line of the grammar or whose command isn't built, 202 where the file isn't there, 203 where a read failed, 204
-/// where the file isn't an assembly, 210 where a put failed (nothing is put after it), 211 for want of memory, 212 where
-/// the file has more than 67,108,864 bytes.
+/// where the file isn't an assembly, 205 where it isn't a library or can't be bound, 208 where the fuel of native code is
+/// spent, 210 where a put failed (nothing is put after it), 211 for want of memory, 212 where the file has more than
+/// 67,108,864 bytes, 213 where native code faulted, 214 where the library doesn't define the symbol.
 pub fn host<S: Store, O: Sink, E: Sink>(
     alloc: Global,
     words: &[String],
@@ -66,26 +70,26 @@ pub fn host<S: Store, O: Sink, E: Sink>(
     settle(alloc, carried, err)
 }
 
-/// The exit status, behind the line of a refusal.
-fn settle<E: Sink>(alloc: Global, carried: Result<(), Refusal>, err: &mut E) -> u8
+/// The exit status, behind the line of a call that stopped.
+fn settle<E: Sink>(alloc: Global, carried: Result<(), Stop>, err: &mut E) -> u8
     ensures settled { IsSettled carried result (E.contents err.old) (E.contents err.new)
         (E.faults err.old) (E.faults err.new) }
     ensures count { E.faults err.old ≤ E.faults err.new }
 {
     match carried {
         Ok(()) => 0,
-        Err(Refusal::SinkFailed) => 210,
-        Err(refusal) => put_line(alloc, &refusal, err),
+        Err(Stop::SinkFailed) => 210,
+        Err(stop) => put_line(alloc, &stop, err),
     }
 }
 
-/// Does what the words ask for, but for a refusal's line.
+/// Does what the words ask for, but for the line of a call that stops.
 fn carry_out<S: Store, O: Sink>(
     alloc: Global,
     words: &[String],
     store: &mut S,
     out: &mut O,
-) -> Result<(), Refusal>
+) -> Result<(), Stop>
     ensures meets { ForFilesOf (S.held store.old) (λ files.
         Meets (answer (texts words.now) files) result (O.contents out.old) (O.contents out.new)) }
     ensures unreadable { IfUnreadable (command (texts words.now)) result
@@ -98,17 +102,18 @@ fn carry_out<S: Store, O: Sink>(
 {
     match read_words(alloc, words)? {
         Some(command) => obey(alloc, command, store, out),
-        None => Err(Refusal::Usage),
+        None => Err(Stop::Refused(Refusal::Usage)),
     }
 }
 
-/// Does what a command asks for, but for a refusal's line.
+/// Does what a command asks for, but for the line of a call that stops.
 fn obey<S: Store, O: Sink>(
     alloc: Global,
     command: Command,
     store: &mut S,
     out: &mut O,
-) -> Result<(), Refusal>
+) -> Result<(), Stop>
+    requires { KeepsBounds command }
     ensures meets { ForFilesOf (S.held store.old) (λ files.
         Meets (answer_to (Some command) files) result (O.contents out.old) (O.contents out.new)) }
     ensures unreadable { IfUnreadable (Some command) result
@@ -121,10 +126,10 @@ fn obey<S: Store, O: Sink>(
 {
     match command {
         Command::Imports(file) => imports(alloc, file, store, out),
-        Command::Stubs(_) => Err(Refusal::Usage),
-        Command::Native(..) => Err(Refusal::Usage),
-        Command::Run(_) => Err(Refusal::Usage),
-        Command::Drill(_) => Err(Refusal::Usage),
+        Command::Stubs(_) => Err(Stop::Refused(Refusal::Usage)),
+        Command::Native(lib, symbol, numbers) => native(alloc, lib, symbol, &numbers, store, out),
+        Command::Run(_) => Err(Stop::Refused(Refusal::Usage)),
+        Command::Drill(_) => Err(Stop::Refused(Refusal::Usage)),
     }
 }
 
@@ -134,7 +139,7 @@ fn imports<S: Store, O: Sink>(
     file: Word,
     store: &mut S,
     out: &mut O,
-) -> Result<(), Refusal>
+) -> Result<(), Stop>
     ensures meets { ForFilesOf (S.held store.old) (λ files.
         Meets (imports_answer file (files file)) result (O.contents out.old) (O.contents out.new)) }
     ensures unreadable { IfUnreadable (Some (Imports file)) result
@@ -147,9 +152,6 @@ fn imports<S: Store, O: Sink>(
 {
     match read_file(alloc, file.as_str(), store) {
         Ok(bytes) => put_imports_of(alloc, bytes.as_slice(), out),
-        Err(FileError::Absent) => Err(Refusal::Absent(file)),
-        Err(FileError::Failed) => Err(Refusal::Unreadable(file)),
-        Err(FileError::TooLarge) => Err(Refusal::TooLarge(file)),
-        Err(FileError::Memory) => Err(Refusal::Memory),
+        Err(error) => Err(file_stop(file, error)),
     }
 }

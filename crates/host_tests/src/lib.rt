@@ -2,7 +2,13 @@
 #![tactic(auto)]
 
 #[cfg(test)]
+mod given;
+#[cfg(test)]
 mod image;
+#[cfg(test)]
+mod library;
+#[cfg(test)]
+mod native;
 #[cfg(test)]
 mod tests;
 #[cfg(test)]

@@ -1,63 +1,16 @@
 //! What `plhost` answers. Expected values come from the formats and the printed texts, and no answer is want of memory.
 
+use crate::given::{self, Failing, Given, NEVER, NOTHING_FAILS};
 use crate::image::{METADATA, assembly, set_u16, set_u32, zeros};
-use bound_base::Items;
-use host_run::host;
-use outside_kit::{MemSink, MemStore};
 use std::alloc::Global;
 use std::test::Fail;
 
 const USAGE: &[u8] =
     b"usage: plhost imports FILE | stubs FILE | native LIB SYMBOL WORD.. | run FILE [--lib F].. [--fuel N] [--report] [--log] [-- WORD..] | drill N\n";
 
-/// Which calls of the store and the sinks fail, by their numbers from 0.
-#[derive(Clone, Copy)]
-struct Failing {
-    read: u64,
-    out: u64,
-    err: u64,
-}
-
-/// The number of a call that never comes.
-const NEVER: u64 = u64::MAX;
-
-const NOTHING_FAILS: Failing = Failing {
-    read: NEVER,
-    out: NEVER,
-    err: NEVER,
-};
-
-/// What a call gave: the status, and the bytes of both streams.
-#[derive(Drop)]
-struct Given {
-    status: u8,
-    out: MemSink,
-    err: MemSink,
-}
-
-fn one_call(alloc: Global, number: u64) -> Result<Items<u64>, Fail> {
-    let mut calls = Items::new(alloc);
-    calls.push(number)?;
-    Ok(calls)
-}
-
-/// Calls `host` with words parted by spaces, over a store that holds `app.dll`, if it is given.
+/// Calls `host` over a store that holds `app.dll`, if it is given.
 fn call(alloc: Global, line: &str, file: Option<&[u8]>, failing: &Failing) -> Result<Given, Fail> {
-    let mut words = Vec::new(alloc);
-    for word in line.split(' ') {
-        words.push(String::from_str(alloc, word)?)?;
-    }
-    let mut store = MemStore::new(alloc);
-    if let Some(bytes) = file {
-        store.hold("app.dll", bytes)?;
-    }
-    store.fail(one_call(alloc, failing.read)?);
-    let mut out = MemSink::new(alloc, 4096)?;
-    out.fail(one_call(alloc, failing.out)?);
-    let mut err = MemSink::new(alloc, 4096)?;
-    err.fail(one_call(alloc, failing.err)?);
-    let status = host(alloc, &words, &mut store, &mut out, &mut err);
-    Ok(Given { status, out, err })
+    given::call(alloc, line, "app.dll", file, failing)
 }
 
 #[test]
@@ -84,7 +37,7 @@ fn words_outside_what_is_built_get_the_usage_line(rt: HostRuntime) -> Result<(),
         "run app.dll",
         "run app.dll --fuel 1 --fuel 2",
         "stubs app.dll",
-        "native lib.so add 2 3",
+        "native lib.so add 2 3 4 5 6 7 8 9 10",
         "drill 7",
         "imports",
         "imports -app.dll",

@@ -1,7 +1,8 @@
 use Rattle.std.proofs.Common.{◌∙◌, sym, ap}
 use Rattle.std.proofs.lemmas.Result.{err_from_is_err_and}
-use Rattle.host_run.specs.Answer.{answer_to}
+use Rattle.host_run.specs.Commands.{answer_to}
 use Rattle.host_run.specs.Grammar.{command, texts}
+use Rattle.host_run.proofs.Bounds.{bounds-kept}
 use Rattle.host_run.proofs.Contents.{usage-given, memory-given}
 use Rattle.host_run.proofs.top_call.carry_out.Goals as goal
 
@@ -13,3 +14,6 @@ returns-in_err-command-clause-meets g c =
 pub returns-in-None-clause-meets : goal.returns-in-None-clause-meets
 returns-in-None-clause-meets g c =
     usage-given (g.S.Store.held c.args.store.now) (command (texts c.args.words.now)) (g.O.Sink.contents c.args.out.now) (λ files. ap (λ k. answer_to k files) (sym c.in_ok-command.ensures ∙ c.in-None.is))
+
+pub obey-requires : goal.obey-requires
+obey-requires g c = bounds-kept (texts c.args.words.now) _ c.in-Some.command c.in_ok-command.ensures c.in-Some.is

@@ -1,0 +1,82 @@
+-- What `native` answers: a library is bound alone, behind the blocks that stand first in memory, and one of its symbols is
+-- called.
+use Rattle.std.specs.Prelude.{ℕ, ◌+◌, List, [], ◌∷◌, replicate, true, false, Option, Some, None, Result, Ok, Err}
+use Rattle.bound_base.specs.declared.ending.Ending.{Ending}
+use Rattle.bound_base.specs.declared.ending.Ending.TheVariants.{Spent, InitFault}
+use Rattle.bound_base.specs.declared.limits.Rights.{Rights}
+use Rattle.bound_base.specs.Limits.{standard}
+use Rattle.byte_view.specs.Reading.{Broken, ◌>>=◌}
+use Rattle.byte_view.specs.Library as file
+use Rattle.native_memory.specs.declared.kind.Kind.{Kind}
+use Rattle.native_memory.specs.declared.kind.Kind.TheVariants.{Stack, Errno}
+use Rattle.native_memory.specs.AddressSpace.{Block, AddressSpace}
+use Rattle.native_memory.specs.Placement.{up_to_16}
+use Rattle.elf_binder.specs.Steps.{Unbound}
+use Rattle.elf_binder.specs.Modules.{symbol_in}
+use Rattle.elf_binder.specs.Binding.{Bindings, sources_from, bindings}
+use Rattle.host_bridge.specs.Places.{first_lane, stack_top}
+use Rattle.host_bridge.specs.NativeRun.{native_run}
+use Rattle.host_run.specs.Answer.{Answer, done, refused}
+use Rattle.host_run.specs.FileNames.{file_name}
+use Rattle.host_run.specs.Texts.{bad_library_line, no_symbol_line, fuel_line, native_fault_line, number_line, memory_line}
+
+-- ---- memory before libraries are bound
+
+abbrev pub data_rights : Rights
+data_rights = record { r = true; w = true; x = false }
+
+-- a block of zeros that may be read and written
+abbrev pub data_block : ℕ → ℕ → Kind → Block
+data_block base size kind = record { base = base; size = size; rights = data_rights; kind = kind; contents = Some (replicate size 0) }
+
+-- the number of the last error, of 4 bytes, and a stack of so many
+unfoldable pub space_with : ℕ → AddressSpace
+space_with stack = record {
+  limit = standard.native;
+  next = first_lane.stack + up_to_16 stack + 16;
+  edge = first_lane.stack + stack;
+  blocks = data_block first_lane.errno 4 Errno ∷ data_block first_lane.stack stack Stack ∷ [];
+  written = 0;
+}
+
+unfoldable pub start_space : AddressSpace
+start_space = space_with standard.stack
+
+-- ---- the library
+
+-- alone, a library has no number
+abbrev pub alone : {X : Type 0} → Result X Unbound → Result X Broken
+alone (Ok x) = Ok x
+alone (Err broken) = Err (broken.1, broken.2)
+
+-- a library under a name and memory with it, by the file's bytes; or its first broken part
+unfoldable pub bound_alone : AddressSpace → List ℕ → List ℕ → Result (Bindings × AddressSpace) Broken
+bound_alone space name bytes =
+    file.library bytes >>= λ library. alone (bindings (sources_from 0 (bytes ∷ []) (library ∷ [])) (name ∷ []) space)
+
+-- ---- the call
+
+-- the most events of the call and of the initializers before it
+abbrev pub native_fuel : ℕ
+native_fuel = 10000000
+
+-- what native code came to; no other ending comes of it
+abbrev pub run_answer : Result ℕ Ending → Answer
+run_answer (Ok number) = done (number_line number)
+run_answer (Err Spent) = refused 208 fuel_line
+run_answer (Err (InitFault pc)) = refused 213 (native_fault_line pc)
+run_answer (Err _) = refused 211 memory_line
+
+-- the address of the symbol is called with the numbers
+abbrev pub call_answer : List ℕ → List ℕ → (Bindings × AddressSpace) → Option ℕ → Answer
+call_answer symbol numbers bound None = refused 214 (no_symbol_line symbol)
+call_answer symbol numbers bound (Some at) = run_answer (native_run bound.0.inits at numbers native_fuel first_lane bound.1).answer
+
+-- a library has a printed name; the symbol is one of its own, and it is the only library, number 0
+abbrev pub bound_answer : List ℕ → List ℕ → List ℕ → Result (Bindings × AddressSpace) Broken → Answer
+bound_answer lib symbol numbers (Ok bound) = call_answer symbol numbers bound (symbol_in bound.0.modules 0 symbol)
+bound_answer lib symbol numbers (Err broken) = refused 205 (bad_library_line lib broken.0 broken.1)
+
+-- `native` of a library by its file's bytes, which is bound under the name that stands after the last `/`
+abbrev pub native_of : List ℕ → List ℕ → List ℕ → List ℕ → Answer
+native_of lib symbol numbers bytes = bound_answer lib symbol numbers (bound_alone start_space (file_name lib) bytes)
