@@ -63,12 +63,7 @@ fn what_is_refused_is_said_on_err(rt: HostRuntime) -> Result<(), Fail> {
             205,
             b"plhost: bad library lib/libnative.so: machine at 18\n".as_slice(),
         ),
-        (
-            &endless,
-            add,
-            208,
-            b"plhost: fuel spent\n".as_slice(),
-        ),
+        (&endless, add, 208, b"plhost: fuel spent\n".as_slice()),
         (
             &faulting,
             add,
