@@ -1,0 +1,6 @@
+pub mod Pieces
+pub mod Stands
+pub mod Head
+pub mod Symbols
+pub mod LibraryLaw
+pub mod Fitting

@@ -1,0 +1,2 @@
+pub mod LibraryFile
+pub mod LibraryReads

@@ -1,0 +1,8 @@
+//! What holds of each file that is written: a proof for all plans, in a function that does nothing.
+
+ghost use Rattle.image_kit.specs.LibraryReads.{LibrariesReadBack};
+
+/// The file of each plan that fits is read as the plan's library.
+pub fn libraries_read_back()
+    ensures { LibrariesReadBack }
+{}
