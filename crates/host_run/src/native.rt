@@ -136,7 +136,13 @@ fn bind_alone(
     ensures { Reads (λ bound. (bound, memory.new)) result (bound_alone memory.old name.now bytes.now) }
 {
     let elf = read_elf(alloc, bytes.as_slice())?;
-    match bind(alloc, from_ref(&elf), from_ref(bytes), from_ref(name), memory) {
+    match bind(
+        alloc,
+        from_ref(&elf),
+        from_ref(bytes),
+        from_ref(name),
+        memory,
+    ) {
         Ok(bound) => Ok(bound),
         Err(BindBad::BadLib { part, at, .. }) => Err(ElfBad::BadElf { part, at }),
         Err(BindBad::Memory) => Err(ElfBad::Memory),
