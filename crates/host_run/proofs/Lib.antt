@@ -9,3 +9,5 @@ pub mod Outcomes
 pub mod Contents
 pub mod Digits
 pub mod StartMemory
+pub mod NativeStatuses
+pub mod ReadBack

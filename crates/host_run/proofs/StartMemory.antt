@@ -1,5 +1,5 @@
 -- Memory before libraries are bound.
-use Rattle.std.proofs.Common.{◌≡◌, refl, sym, ap, ◌∙◌, subst, ℕ, ◌+◌, ◌*◌, ◌/◌, ◌^◌, ◌<◌, ◌≤◌, [], ◌∷◌, Option, Some, None, arith}
+use Rattle.std.proofs.Common.{◌≡◌, refl, sym, ap, ◌∙◌, subst, ℕ, ◌+◌, ◌*◌, ◌/◌, ◌^◌, ◌<◌, ◌≤◌, [], ◌∷◌, Option, Some, arith}
 use Rattle.std.specs.Prelude.{IsSome, max}
 use Rattle.std.proofs.lemmas.Bool.{le-leb}
 use Rattle.bound_base.specs.declared.limits.Limits.{Limits}

@@ -6,6 +6,7 @@ pub mod Grammar
 pub mod GrammarLaws
 pub mod Imports
 pub mod Native
+pub mod NativeLaws
 pub mod Outcome
 pub mod Stops
 pub mod Texts

@@ -14,7 +14,7 @@ use Rattle.native_memory.specs.Placement.{up_to_16}
 use Rattle.elf_binder.specs.Steps.{Unbound}
 use Rattle.elf_binder.specs.Modules.{symbol_in}
 use Rattle.elf_binder.specs.Binding.{Bindings, sources_from, bindings}
-use Rattle.host_bridge.specs.Places.{first_lane, stack_top}
+use Rattle.host_bridge.specs.Places.{first_lane}
 use Rattle.host_bridge.specs.NativeRun.{native_run}
 use Rattle.host_run.specs.Answer.{Answer, done, refused}
 use Rattle.host_run.specs.FileNames.{file_name}

@@ -1,6 +1,7 @@
-//! Laws of the line grammar: each function's contract is one.
+//! Laws of the line grammar and of `native`: each function's contract is one.
 
 ghost use Rattle.host_run.specs.GrammarLaws.{CommandsKeepBounds, ProgramWordsAreFree};
+ghost use Rattle.host_run.specs.NativeLaws.{NativeHasFiveStatuses, PrintedNumbersReadBack};
 
 /// Whatever the words of a line are: the FILE or LIB of a command that they ask for isn't empty and doesn't begin with
 /// `-`, the SYMBOL isn't empty, the numbers are at most eight, the fuel is at most 100,000,000, a drill is below 2^32.
@@ -12,4 +13,15 @@ pub fn commands_keep_bounds()
 /// line asks for the same command.
 pub fn program_words_are_free()
     ensures { ProgramWordsAreFree }
+{}
+
+/// Whatever the bytes of a library are: `native` answers them with a number and 0, or with 205, 208, 213 or 214.
+pub fn native_has_five_statuses()
+    ensures { NativeHasFiveStatuses }
+{}
+
+/// A number that `native` prints has sixteen digits, and it is read back: with `0x` before it, it is a word of a line that
+/// means that number.
+pub fn printed_numbers_read_back()
+    ensures { PrintedNumbersReadBack }
 {}

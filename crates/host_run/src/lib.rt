@@ -16,6 +16,9 @@ mod top_call;
 mod words;
 
 pub use command::{Command, RunWords, Word, WordList, Words8};
-pub use laws::{commands_keep_bounds, program_words_are_free};
+pub use laws::{
+    commands_keep_bounds, native_has_five_statuses, printed_numbers_read_back,
+    program_words_are_free,
+};
 pub use top_call::host;
 pub use words::read_words;

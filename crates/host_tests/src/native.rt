@@ -44,11 +44,9 @@ fn what_is_refused_is_said_on_err(rt: HostRuntime) -> Result<(), Fail> {
     // e_machine is that of x86-64
     let mut foreign = library(rt.alloc())?;
     set_u32(&mut foreign, 18, 0x0001_003E);
-    // `add` is `ebreak`, or a jump to itself
+    // `add` is `ebreak`
     let mut faulting = library(rt.alloc())?;
     set_u32(&mut faulting, CODE, 0x0010_0073);
-    let mut endless = library(rt.alloc())?;
-    set_u32(&mut endless, CODE, 0x0000_006F);
     // the initializer is `ret`, or `ebreak`
     let mut initialized = library(rt.alloc())?;
     set_u32(&mut initialized, INIT, 0x204);
@@ -63,7 +61,6 @@ fn what_is_refused_is_said_on_err(rt: HostRuntime) -> Result<(), Fail> {
             205,
             b"plhost: bad library lib/libnative.so: machine at 18\n".as_slice(),
         ),
-        (&endless, add, 208, b"plhost: fuel spent\n".as_slice()),
         (
             &faulting,
             add,
@@ -93,6 +90,18 @@ fn what_is_refused_is_said_on_err(rt: HostRuntime) -> Result<(), Fail> {
         assert_eq!(rt; given.status, status, "{line}");
         assert_eq!(rt; given.err.bytes(), err, "{line}");
     }
+    Ok(())
+}
+
+#[test]
+fn code_without_end_spends_its_fuel(rt: HostRuntime) -> Result<(), Fail> {
+    // `add` is a jump to itself
+    let mut endless = library(rt.alloc())?;
+    set_u32(&mut endless, CODE, 0x0000_006F);
+    let given = call_of(rt.alloc(), "native lib/libnative.so add", &endless)?;
+    assert_eq!(rt; given.status, 208);
+    assert_eq!(rt; given.out.bytes(), b"".as_slice());
+    assert_eq!(rt; given.err.bytes(), b"plhost: fuel spent\n".as_slice());
     Ok(())
 }
 
