@@ -21,7 +21,7 @@ returns-in_err-relocate_all c =
     record { bases = c.in_ok-bases.bases; placing = c.in_ok-bases.ensures.placed; lending = c.as_slice-bases.ensures; naming = c.in_ok-modules.ensures } in
     rw (p.1, p.2)
     (refused c.in_err-relocate_all.field-0.0 _ _ (λ d fails. not_relocated sources c.args.names.now c.args.memory.now c.place_all.new.memory c.as_slice-bases.result.now c.in_ok-modules.modules c.as_slice.result.now d placed
-      c.as_slice.ensures fails) c.in_err-relocate_all.ensures)
+    c.as_slice.ensures fails) c.in_err-relocate_all.ensures)
 
 pub returns-in_err-inits : goal.returns-in_err-inits
 returns-in_err-inits c =
@@ -31,7 +31,7 @@ returns-in_err-inits c =
     record { bases = c.in_ok-bases.bases; placing = c.in_ok-bases.ensures.placed; lending = c.as_slice-bases.ensures; naming = c.in_ok-modules.ensures } in
     rw (p.1, p.2)
     (refused c.in_err-inits.field-0.0 _ _ (λ d fails. not_listed sources c.args.names.now c.args.memory.now c.place_all.new.memory c.relocate_all.new.memory c.as_slice-bases.result.now c.in_ok-modules.modules
-      c.as_slice.result.now d placed c.as_slice.ensures c.in_ok-relocate_all.ensures fails) c.in_err-inits.ensures)
+    c.as_slice.result.now d placed c.as_slice.ensures c.in_ok-relocate_all.ensures fails) c.in_err-inits.ensures)
 
 pub new-requires : goal.new-requires
 new-requires c =

@@ -24,7 +24,7 @@ returns-in_err-relocate_library c =
     let p = err_from_is_err_and c.from_residual.result c.from_residual.ensures.1 in
     rw (p.1, p.2)
     (refused c.in_err-relocate_library.field-0.0 _ _ (λ d fails. it_fails (relocate_library c.args.modules.now) c.args.memory.now (zip (sources_from 0 c.args.files.now (map library_of c.args.elfs.now)) c.args.bases.now)
-      c.loop-number.memory c.loop-number.number (source_of c.placed_library-base.result.0, c.placed_library-base.result.1) d c.loop-number.invariant c.placed_library-base.ensures fails) c.in_err-relocate_library.ensures)
+    c.loop-number.memory c.loop-number.number (source_of c.placed_library-base.result.0, c.placed_library-base.result.1) d c.loop-number.invariant c.placed_library-base.ensures fails) c.in_err-relocate_library.ensures)
 
 pub loop-number-preserved : goal.loop-number-preserved
 loop-number-preserved c =
