@@ -31,4 +31,6 @@ pub use refusal::BindBad;
 pub use scope::address_of;
 
 #[cfg(test)]
+mod binding_tests;
+#[cfg(test)]
 mod tests;
