@@ -34,7 +34,8 @@ pub record Ends (old : NativeRun) (answer : Result ℕ Ending) (memory : Address
   pub stops : step last ≡ Stops answer
   pub at_end : last.memory ≡ memory
 
--- by the code's answer: the run has come to another state, or stops; want of memory is free
+-- by the code's answer: the run has come to the state of that answer, or stops with the memory that this state would have; want of
+-- memory is free
 abbrev pub Comes : Result ℕ Ending → NativeRun → (ℕ → NativeRun) → Type 0
 Comes (Ok answer) old new = Ran old (new answer)
 Comes (Err Memory) old new = Unit {0}
