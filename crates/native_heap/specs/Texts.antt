@@ -9,6 +9,7 @@ use Rattle.native_memory.specs.Ranges.{covers, may_read, open_bytes, rest_at, wr
 use Rattle.native_heap.specs.Outcome.{Outcome, ◌>>=◌, reading, answering}
 use Rattle.native_heap.specs.Bytes.{sign}
 
+-- the byte that ends a text
 abbrev pub is_zero : ℕ → Bool
 is_zero byte = byte == 0
 
@@ -41,6 +42,7 @@ readable_in addr (block ∷ rest) =
     then then_more (open_bytes may_read block) (addr - block.base) (readable_in (block.base + block.size) rest)
     else readable_in addr rest
 
+-- the same among the live blocks
 unfoldable pub readable_from : AddressSpace → ℕ → List ℕ
 readable_from space addr = readable_in addr space.blocks
 

@@ -46,7 +46,7 @@ pub fn calloc(memory: &mut Memory, count: u64, size: u64) -> Result<u64, HeapBad
 }
 
 /// A heap block of so many bytes in place of the one at `p`, or 0 where there is no room, and then that one lives on. At 0 as
-/// `malloc`. It faults where `p` isn't 0 or the base of a live heap block.
+/// `malloc`. It faults where `p` isn't 0 or the base of a live heap block that can be read.
 #[tactic(auto, unfolding(crate::specs::Allocation::realloc))]
 pub fn realloc(alloc: Global, memory: &mut Memory, p: u64, size: u64) -> Result<u64, HeapBad>
     ensures ok { IfOk result (λ answer. realloc memory.old p size ≡ Some (answer, memory.new)) }

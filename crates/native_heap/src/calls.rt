@@ -18,11 +18,17 @@ pub type Regs0 = [u64; 32];
 /// Does the host function of a number, but for the return to `ra`. Its arguments stand in a0, a1 and a2, and its answer goes to
 /// a0; all other registers stay. `errno` is the address of the number of the last error, which `__errno_location` answers.
 ///
-/// `Fault` comes exactly where the function isn't defined for its arguments: `realloc` and `free` where a0 isn't 0 or the base of
-/// a live heap block; `memcpy`, `memmove`, `memset` and `memcmp` where a range of theirs can't be read or written; `strlen` and
-/// `strcpy` where the block has no zero from the text on, or can't be read; `strcpy` where the copy can't be written; `strcmp`
-/// where a byte that it needs can't be read; `abort` always. `Memory` comes where the function would be done and memory for it
-/// is wanting. With either, registers and memory are as they were.
+/// `Fault` comes exactly where the function isn't defined for its arguments:
+/// - `realloc` and `free` where a0 isn't 0 or the base of a live heap block, and `realloc` where that block can't be read, as
+///   each can that these functions place;
+/// - `memcpy`, `memmove`, `memset` and `memcmp` where a range can't be read, or can't be written;
+/// - `strlen` and `strcpy` where the block has no zero from the text on or can't be read, `strcpy` also where the copy can't be
+///   written;
+/// - `strcmp` where a byte that it needs can't be read;
+/// - `abort` always.
+///
+/// `Memory` comes where the function would be done and memory for it is wanting. With either, registers and memory are as they
+/// were.
 #[tactic(auto, unfolding(crate::specs::HostFunctions::called))]
 pub fn call(
     alloc: Global,

@@ -6,31 +6,31 @@ ghost use Rattle.native_heap.specs.HostFunctions.{host_functions, host_names, na
 /// A function of the C library that native code may call (ISO/IEC 9899).
 #[derive(Clone, Copy, Debug, PartialEq, Eq)]
 pub enum HostFunction {
-    /// 7.22.3.4
+    /// A new block (7.22.3.4).
     Malloc,
-    /// 7.22.3.2
+    /// A new block for an array (7.22.3.2).
     Calloc,
-    /// 7.22.3.5
+    /// A block of another size (7.22.3.5).
     Realloc,
-    /// 7.22.3.3
+    /// Ends a block (7.22.3.3).
     Free,
-    /// 7.24.2.1
+    /// Copies bytes (7.24.2.1).
     Memcpy,
-    /// 7.24.2.2
+    /// Copies bytes, also over themselves (7.24.2.2).
     Memmove,
-    /// 7.24.6.1
+    /// Fills with a byte (7.24.6.1).
     Memset,
-    /// 7.24.4.1
+    /// Compares bytes (7.24.4.1).
     Memcmp,
-    /// 7.24.6.3
+    /// The length of a text (7.24.6.3).
     Strlen,
-    /// 7.24.4.2
+    /// Compares texts (7.24.4.2).
     Strcmp,
-    /// 7.24.2.3
+    /// Copies a text (7.24.2.3).
     Strcpy,
-    /// 7.5: what `errno` stands for, under the name that the GNU C library gives it.
+    /// The address of `errno` (7.5), under the name that the GNU C library gives it.
     ErrnoLocation,
-    /// 7.22.4.1
+    /// Ends the program, which is a fault here (7.22.4.1).
     Abort,
 }
 
