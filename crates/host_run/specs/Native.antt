@@ -72,7 +72,7 @@ abbrev pub call_answer : List ℕ → List ℕ → (Bindings × AddressSpace) �
 call_answer symbol numbers bound None = refused 214 (no_symbol_line symbol)
 call_answer symbol numbers bound (Some at) = run_answer (native_run bound.0.inits at numbers native_fuel first_lane bound.1).answer
 
--- a library has a printed name; the symbol is one of its own, and it is the only library, number 0
+-- the symbol is looked for in the only library, number 0; a broken one is named as the line has it
 abbrev pub bound_answer : List ℕ → List ℕ → List ℕ → Result (Bindings × AddressSpace) Broken → Answer
 bound_answer lib symbol numbers (Ok bound) = call_answer symbol numbers bound (symbol_in bound.0.modules 0 symbol)
 bound_answer lib symbol numbers (Err broken) = refused 205 (bad_library_line lib broken.0 broken.1)
