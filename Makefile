@@ -35,6 +35,7 @@ test:
 bench: $(if $(PLHOST),,build)
 	bench/imports
 	bench/native
+	bench/library
 
 # Installs what checks, examples and benches want. What cannot be had is a line, and no failure.
 tools:

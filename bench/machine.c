@@ -1,7 +1,8 @@
 /* A plain peer for `bench/native`: native memory as a list of blocks in order of their bases, searched by bisection, and a
  * machine for RV64IM over it, which fetches and decodes at each step. It decodes every instruction, not just those of the
  * loop, so that a step costs what it costs a whole machine. For the words `steps` and `reads BLOCKS READS` it does what
- * native_bench does, and prints the same line. It takes a host whose lowest byte comes first. */
+ * native_bench does, and for `call CODE OFFSET` what plhost does with a function of a file of bare code, and prints the same line.
+ * It takes a host whose lowest byte comes first. */
 #include <stdbool.h>
 #include <stdint.h>
 #include <stdio.h>
@@ -346,11 +347,42 @@ static void read_among(uint64_t blocks, uint64_t reads) {
     printf("%llu blocks, %llu reads, sum %llu\n", (unsigned long long)blocks, (unsigned long long)reads, (unsigned long long)sum);
 }
 
+enum { RETURN_PLACE = 0x100, MEMCPY_PLACE = 0x240, RA = 1, A1 = 11, CODE_ROOM = 1 << 16 };
+
+/* The host function memcpy. */
+static bool copy_bytes(struct registers *registers, struct memory *memory) {
+    uint64_t to = registers->x[A0], from = registers->x[A1], size = registers->x[A2];
+    uint8_t *bytes = malloc(size);
+    bool copied = bytes && read_bytes(memory, from, bytes, size) && write_bytes(memory, to, bytes, size);
+    free(bytes);
+    registers->pc = registers->x[RA];
+    return copied;
+}
+
+static void call(const char *name, uint64_t offset) {
+    struct memory memory = {.next = 65536};
+    struct registers registers = {0};
+    registers.x[SP] = place(&memory, STACK, (struct rights){.r = true, .w = true}) + STACK;
+    uint64_t code = place(&memory, CODE_ROOM, (struct rights){.r = true, .x = true});
+    FILE *file = fopen(name, "rb");
+    if (!file || !fread(memory.blocks[1].bytes, 1, CODE_ROOM, file)) fail("the code can't be read");
+    fclose(file);
+    registers.x[RA] = RETURN_PLACE;
+    registers.pc = code + offset;
+    while (registers.pc != RETURN_PLACE) {
+        bool went = registers.pc == MEMCPY_PLACE ? copy_bytes(&registers, &memory) : step(&registers, &memory);
+        if (!went) fail("the code faults");
+    }
+    printf("0x%016llx\n", (unsigned long long)registers.x[A0]);
+}
+
 int main(int count, char **words) {
     if (count == 2 && !strcmp(words[1], "steps"))
         steps();
     else if (count == 4 && !strcmp(words[1], "reads"))
         read_among(strtoull(words[2], NULL, 10), strtoull(words[3], NULL, 10));
+    else if (count == 4 && !strcmp(words[1], "call"))
+        call(words[2], strtoull(words[3], NULL, 10));
     else
         fail("no such mode");
     return 0;
