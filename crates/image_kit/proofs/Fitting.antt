@@ -1,5 +1,5 @@
 -- When a plan fits, by its tests.
-use Rattle.std.proofs.Common.{◌≡◌, ℕ, ◌+◌, ◌-◌, ◌^◌, ◌<◌, ◌≤◌, Bool, true, false, List, length, get_or, sym, ap, ◌∙◌, subst, inl, inr, arith}
+use Rattle.std.proofs.Common.{◌≡◌, ℕ, ◌+◌, ◌-◌, ◌^◌, ◌<◌, ◌≤◌, false, List, length, get_or, sym, ap, ◌∙◌, subst, inl, inr, arith}
 use Rattle.std.specs.Prelude.{◌↔◌, IsTrue, IsSome, All, Contains, nat_le, min}
 use Rattle.std.proofs.lemmas.Bool.{cases_lt, le-leb, leb-true, false≢true}
 use Rattle.std.proofs.lemmas.List.{get_or_default}
@@ -35,11 +35,12 @@ names_fail plan names same fail fits = fail (subst (λ (names : List NamedPlace)
 
 -- a plan whose instructions and names fit, by its size
 pub fits_by_size : (plan : LibraryPlan) (code : List Instr) (names : List NamedPlace) (size : ℕ) → code ≡ plan.code → names ≡ plan.names → All (λ instr. IsSome (encoding instr)) code → All (λ place. ¬ Contains place.name 0) names → size ≡ min (file_end plan) (2 ^ 64 - 1) → IsTrue (nat_le size 67108864) ↔ Fits plan
-fits_by_size plan code names size same_code same_names encode free is =
-    (λ e. let small : size ≤ 67108864 = leb-true size 67108864 e in
-    record {
-      encode = subst (λ (code : List Instr). All (λ instr. IsSome (encoding instr)) code) same_code encode;
-      names = subst (λ (names : List NamedPlace). All (λ place. ¬ Contains place.name 0) names) same_names free;
-      small = omega arith;
-    },
-    λ fits. let small = fits.small in le-leb size 67108864 (omega arith))
+fits_by_size plan code names size same_code same_names encode free is = (
+  λ e. let small : size ≤ 67108864 = leb-true size 67108864 e in
+      record {
+        encode = subst (λ (code : List Instr). All (λ instr. IsSome (encoding instr)) code) same_code encode;
+        names = subst (λ (names : List NamedPlace). All (λ place. ¬ Contains place.name 0) names) same_names free;
+        small = omega arith;
+      },
+  λ fits. let small = fits.small in le-leb size 67108864 (omega arith),
+)

@@ -1,11 +1,11 @@
 -- The headers of a written library, as they are read.
-use Rattle.std.proofs.Common.{◌≡◌, ℕ, zero, suc, ◌+◌, ◌-◌, ◌*◌, ◌/◌, ◌^◌, ◌<◌, ◌≤◌, Bool, true, false, List, [], ◌∷◌, ◌++◌, length, take, drop, Option, Some, None, Result, Ok, Err, refl, sym, ap, ◌∙◌, subst, arith}
+use Rattle.std.proofs.Common.{◌≡◌, ℕ, ◌+◌, ◌-◌, ◌*◌, ◌^◌, ◌<◌, ◌≤◌, Bool, true, false, List, [], ◌∷◌, ◌++◌, length, Ok, refl, sym, ap, ◌∙◌, subst, arith}
 use Rattle.std.specs.Prelude.{nat_le, nat_lt, ◌==◌, bit_and, map, min}
 use Rattle.byteorder.specs.Numbers.{little_number-reads_back}
 use Rattle.std.specs.List.{range_with_len}
 use Rattle.std.proofs.lemmas.Bool.{le-leb, lt-ltb}
 use Rattle.byte_view.specs.Numbers.{le}
-use Rattle.byte_view.specs.Reading.{Broken, ◌>>=◌, must, field, field_where, each}
+use Rattle.byte_view.specs.Reading.{field, field_where, each}
 use Rattle.byte_view.specs.ElfParts as parts
 use Rattle.byte_view.specs.ElfLoads.{Load, identified, program_headers, load_at, and_load, loads, without_tls}
 use Rattle.byte_view.specs.ElfDynamic.{Entry, entry_at, dynamic_among, dynamic_header, entry_count, entries, check_entry, check_entries, dynamic_table}

@@ -1,6 +1,6 @@
 -- The file of a library reads back as its plan.
-use Rattle.std.proofs.Common.{◌≡◌, ℕ, zero, suc, ◌+◌, ◌-◌, ◌*◌, ◌%◌, ◌^◌, ◌<◌, ◌≤◌, Bool, true, List, [], ◌∷◌, ◌++◌, length, take, drop, Option, Some, None, Result, Ok, refl, sym, ap, ◌∙◌, subst, arith}
-use Rattle.std.specs.Prelude.{slice_get, slice_range, All, IsSome, unwrap_or}
+use Rattle.std.proofs.Common.{◌≡◌, ℕ, zero, suc, ◌+◌, ◌-◌, ◌*◌, List, [], ◌∷◌, ◌++◌, length, Option, Some, None, Ok, refl, sym, ap, ◌∙◌, subst, arith}
+use Rattle.std.specs.Prelude.{slice_get, IsSome, unwrap_or}
 use Rattle.std.specs.List.{range_with_len, flat_map}
 use Rattle.std.proofs.lemmas.List.{length-append, append-nil}
 use Rattle.std.proofs.lemmas.List.FromFn.{length-range_with_len}
@@ -17,7 +17,7 @@ use Rattle.byte_view.specs.Library.{Library, library}
 use Rattle.byte_view.proofs.Reading.{bind_read}
 use Rattle.image_kit.specs.declared.library_plan.LibraryPlan.{LibraryPlan}
 use Rattle.image_kit.specs.LibraryFile.{u32, elf_header, program_header_table, dynamic_section, symbol_table, hash_table, code_bytes, word_of, string_table, hash_place, code_place, bytes_place, strings_place, file_end, library_file}
-use Rattle.image_kit.specs.LibraryReads.{Fits, library_of, ReadsBack, LibrariesReadBack}
+use Rattle.image_kit.specs.LibraryReads.{Fits, library_of, LibrariesReadBack}
 use Rattle.image_kit.proofs.Stands.{Stands, stands_front, stands_back, le_u32, length-u32, range_stands}
 use Rattle.image_kit.proofs.Head.{length-elf_header, length-program_header_table, length-dynamic_section, one_load, written_entries, identified_reads, headers_read, Programs, programs, loads_read, without_tls_reads, dynamic_header_reads, dynamic_table_reads}
 use Rattle.image_kit.proofs.Symbols.{length-symbol_table, SymbolsStand, written_symbols, symbols_read}

@@ -1,11 +1,11 @@
 -- What stands at a place of a file.
-use Rattle.std.proofs.Common.{◌≡◌, ℕ, zero, suc, ◌+◌, ◌-◌, ◌*◌, ◌/◌, ◌%◌, ◌^◌, ◌<◌, ◌≤◌, Bool, true, false, not, cond, List, [], ◌∷◌, ◌++◌, length, get_or, take, drop, Option, Some, None, refl, sym, ap, ◌∙◌, append_assoc, arith}
-use Rattle.std.specs.Prelude.{◌==◌, slice_range, option_map, nat_lt}
-use Rattle.std.specs.List.{Contains, position, position_or_len, prefix_len, flat_map}
+use Rattle.std.proofs.Common.{◌≡◌, ℕ, suc, ◌+◌, ◌-◌, ◌^◌, ◌<◌, ◌≤◌, Bool, true, false, List, [], ◌∷◌, ◌++◌, length, get_or, take, drop, Some, refl, sym, ap, ◌∙◌, append_assoc, arith}
+use Rattle.std.specs.Prelude.{◌==◌, slice_range, nat_lt}
+use Rattle.std.specs.List.{Contains, position, position_or_len}
 use Rattle.std.proofs.lemmas.Bool.{lt-ltb, ne_eqb}
 use Rattle.std.proofs.lemmas.List.{drop-drop, drop_at, take_at, take_all, length-drop, length-append}
 use Rattle.byteorder.specs.Endian.{little_number, little_bytes}
-use Rattle.byteorder.specs.Numbers.{little_number-reads_back, length-bytes_low_first}
+use Rattle.byteorder.specs.Numbers.{little_number-reads_back}
 use Rattle.byte_view.specs.Numbers.{le}
 use Rattle.byte_view.specs.Heaps.{text_at}
 use Rattle.image_kit.specs.LibraryFile.{u16, u32, u64}
@@ -17,7 +17,6 @@ pub record Stands (bytes : List ℕ) (at : ℕ) (piece : List ℕ) : Type 0 wher
 
 pub stands_first : (xs ys : List ℕ) → Stands (xs ++ ys) 0 xs
 stands_first xs ys = record { rest = ys; from = refl }
-
 
 -- the front of a piece
 pub stands_front : (bytes : List ℕ) (at : ℕ) (xs ys : List ℕ) → Stands bytes at (xs ++ ys) → Stands bytes at xs

@@ -1,14 +1,13 @@
 -- The symbols of a written library, as they are read.
-use Rattle.std.proofs.Common.{◌≡◌, ℕ, zero, suc, ◌+◌, ◌-◌, ◌*◌, ◌/◌, ◌%◌, ◌^◌, ◌<◌, ◌≤◌, Bool, true, false, ◌&&◌, List, [], ◌∷◌, ◌++◌, length, get_or, take, drop, replicate, Option, Some, None, Result, Ok, Err, refl, sym, ap, ◌∙◌, subst, arith}
+use Rattle.std.proofs.Common.{◌≡◌, ℕ, zero, suc, ◌+◌, ◌-◌, ◌*◌, ◌%◌, ◌^◌, ◌<◌, ◌≤◌, true, false, List, [], ◌∷◌, ◌++◌, length, get_or, drop, replicate, Some, Ok, refl, sym, ap, ◌∙◌, subst, arith}
 use Rattle.std.specs.Prelude.{nat_le, ◌==◌, map, slice_range, Contains, All}
-use Rattle.std.specs.List.{range_with_len, flat_map}
+use Rattle.std.specs.List.{flat_map}
 use Rattle.std.proofs.lemmas.Bool.{le-leb, ne_eqb}
 use Rattle.std.proofs.lemmas.List.{length-append, length-map, append_assoc, get_or-map}
 use Rattle.std.proofs.lemmas.List.FromFn.{fill_by_all}
 use Rattle.byteorder.specs.Numbers.{little_number-reads_back}
 use Rattle.byte_view.specs.Numbers.{le}
-use Rattle.byte_view.specs.Reading.{Broken, ◌>>=◌, listed}
-use Rattle.byte_view.specs.Heaps.{text_at}
+use Rattle.byte_view.specs.Reading.{listed}
 use Rattle.byte_view.specs.ElfParts as parts
 use Rattle.byte_view.specs.ElfLoads.{Load, holds_range, file_place, bytes_from}
 use Rattle.byte_view.specs.ElfDynamic.{Entry, entry_of}

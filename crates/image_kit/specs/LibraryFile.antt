@@ -1,7 +1,7 @@
 -- The file of a library, from its plan: headers, a dynamic section, symbols, a hash table, code, what stands behind the code,
 -- and the names (System V gABI, 'ELF Header', 'Program Header', 'Dynamic Section', 'Symbol Table', 'Hash Table' and 'String
 -- Table'; RISC-V psABI, 'File Header').
-use Rattle.std.specs.Prelude.{ℕ, ◌+◌, ◌-◌, ◌*◌, ◌%◌, ◌^◌, List, [], ◌∷◌, ◌++◌, length, map, codes, replicate, flat_map, unwrap_or}
+use Rattle.std.specs.Prelude.{ℕ, ◌+◌, ◌-◌, ◌*◌, ◌%◌, ◌^◌, List, [], ◌∷◌, ◌++◌, length, codes, replicate, flat_map, unwrap_or}
 use Rattle.std.specs.List.{range_with_len}
 use Rattle.byteorder.specs.Endian.{little_bytes}
 use Rattle.rv_decode.specs.declared.instr.Instr.{Instr}

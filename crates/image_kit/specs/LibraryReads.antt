@@ -1,5 +1,5 @@
 -- What the file of a library is read as.
-use Rattle.std.specs.Prelude.{◌≡◌, ◌≤◌, ◌<◌, ℕ, ◌+◌, ◌*◌, ◌%◌, ◌^◌, true, false, List, [], ◌∷◌, length, map, slice_get, slice_range, All, Contains, Some, Ok, IsSome}
+use Rattle.std.specs.Prelude.{◌≡◌, ◌≤◌, ℕ, ◌+◌, ◌*◌, ◌%◌, ◌^◌, true, false, List, [], ◌∷◌, length, map, slice_get, slice_range, All, Contains, Some, Ok, IsSome}
 use Rattle.rv_decode.specs.declared.instr.Instr.{Instr}
 use Rattle.rv_decode.specs.Encoding.{encoding}
 use Rattle.byte_view.specs.Numbers.{le}

@@ -4,39 +4,49 @@
 ghost use Rattle.std.specs.Prelude.{◌≡◌, ◌++◌, OnOk};
 ghost use Rattle.image_kit.specs.LibraryFile.{file_kind, header_sizes, elf_header, program_header, program_header_table, entry, dynamic_section};
 
+use crate::put::{put16, put32, put64};
+use bound_base::Bytes;
 use std::alloc::AllocError;
 
-use bound_base::Bytes;
-
-use crate::put::{put16, put32, put64};
-
 /// ELF, 64 bits, lowest byte first, version 1, System V.
-const IDENT: [u8; 16] = [
-    0x7F, 0x45, 0x4C, 0x46, 2, 1, 1, 0, 0, 0, 0, 0, 0, 0, 0, 0,
-];
+const IDENT: [u8; 16] = [0x7F, 0x45, 0x4C, 0x46, 2, 1, 1, 0, 0, 0, 0, 0, 0, 0, 0, 0];
 
 const ET_DYN: u16 = 3;
+
 const EM_RISCV: u16 = 243;
 
 const HEADER_SIZE: u16 = 64;
+
 const PROGRAM_HEADER_SIZE: u16 = 56;
+
 const SECTION_HEADER_SIZE: u16 = 64;
 
 const PT_LOAD: u32 = 1;
+
 const PT_DYNAMIC: u32 = 2;
+
 const PF_X: u32 = 1;
+
 const PF_R: u32 = 4;
+
 const PAGE: u64 = 4096;
 
 const DYNAMIC_PLACE: u64 = 176;
+
 const DYNAMIC_SIZE: u64 = 208;
+
 const SYMBOLS_PLACE: u64 = 384;
+
 const SYMBOL_SIZE: u64 = 24;
 
 const DT_HASH: u64 = 4;
+
 const DT_STRTAB: u64 = 5;
+
 const DT_SYMTAB: u64 = 6;
+
 const DT_STRSZ: u64 = 10;
+
 const DT_SYMENT: u64 = 11;
 
 /// DT_NULL, and 7 spare entries.

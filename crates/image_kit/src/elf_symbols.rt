@@ -4,15 +4,14 @@
 ghost use Rattle.std.specs.Prelude.{◌≡◌, ◌<◌, ◌≤◌, ◌++◌, length, OnOk};
 ghost use Rattle.image_kit.specs.LibraryFile.{symbol_entry, symbol_table, string_table, hash_table};
 
-use std::alloc::AllocError;
-
-use bound_base::Bytes;
-
 use crate::library_plan::NamedPlace;
 use crate::put::{put16, put32, put64};
+use bound_base::Bytes;
+use std::alloc::AllocError;
 
 /// STB_GLOBAL and STT_FUNC.
 const GLOBAL_FUNCTION: u8 = 0x12;
+
 const DEFAULT_VISIBILITY: u8 = 0;
 
 /// The number of a section, which each symbol that is defined has.

@@ -4,15 +4,13 @@ ghost use Rattle.std.specs.Prelude.{◌≡◌, ◌++◌, length, IfOk, OnOk};
 ghost use Rattle.image_kit.specs.LibraryFile.{library_file, code_bytes, hash_place, code_place, strings_place, file_end};
 ghost use Rattle.image_kit.specs.LibraryReads.{Fits, ReadsBack};
 
-use std::alloc::{AllocError, Global};
-
-use bound_base::{Bytes, NoMemory};
-use rv_decode::{Instr, encode};
-
 use crate::elf_head::{put_dynamic_section, put_elf_header, put_program_headers};
 use crate::elf_symbols::{put_hash_table, put_string_table, put_symbol_table};
 use crate::library_plan::{LibraryPlan, strings_size};
 use crate::put::put32;
+use bound_base::{Bytes, NoMemory};
+use rv_decode::{Instr, encode};
+use std::alloc::{AllocError, Global};
 
 /// The file of a library with one load, readable and executable: the code at an address that is a multiple of 4, behind it
 /// the plan's bytes, and a symbol for each name. It has no relocation and no initializer.
@@ -37,7 +35,12 @@ fn put_library(out: &mut Bytes, p: &LibraryPlan) -> Result<(), AllocError>
     let names = p.names.as_slice();
     put_elf_header(out)?;
     put_program_headers(out, places.end)?;
-    put_dynamic_section(out, places.hash, places.strings, places.end - places.strings)?;
+    put_dynamic_section(
+        out,
+        places.hash,
+        places.strings,
+        places.end - places.strings,
+    )?;
     put_symbol_table(out, places.code, names)?;
     put_hash_table(out, names.len() as u32)?;
     put_code(out, p.code.as_slice())?;

@@ -92,7 +92,9 @@ pub(crate) fn strings_size(names: &[NamedPlace]) -> u64
 {
     let mut size: u64 = 1;
     for place in names {
-        size = size.saturating_add(place.name.len() as u64).saturating_add(1);
+        size = size
+            .saturating_add(place.name.len() as u64)
+            .saturating_add(1);
     }
     size
 }

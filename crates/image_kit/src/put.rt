@@ -3,9 +3,8 @@
 ghost use Rattle.std.specs.Prelude.{◌≡◌, ◌++◌, OnOk};
 ghost use Rattle.image_kit.specs.LibraryFile.{u16, u32, u64};
 
-use std::alloc::AllocError;
-
 use bound_base::Bytes;
+use std::alloc::AllocError;
 
 #[tactic(auto, unfolding(crate::specs::LibraryFile::u16))]
 pub(crate) fn put16(out: &mut Bytes, number: u16) -> Result<(), AllocError>
