@@ -124,7 +124,7 @@ ascending base edge [] low apart = tt
 ascending base edge (load ∷ more) low apart = (
   low 0 load refl,
   ascending base (base + end_of load) more (λ k other is. omega (arith, apart 0 (suc k) load other (omega arith) refl is))
-  (λ k later one other h first second. apart (suc k) (suc later) one other (omega arith) first second),
+      (λ k later one other h first second. apart (suc k) (suc later) one other (omega arith) first second),
 )
 
 loads_grow : (source : Source) (base : ℕ) (old : AddressSpace) (loads : List Load) (new : AddressSpace) → IsSound old → Ascend base old.edge loads → Each (λ load. load.file_size ≤ load.size) loads
