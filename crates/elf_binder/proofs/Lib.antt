@@ -16,3 +16,7 @@ pub mod Exports
 pub mod HostPlaces
 pub mod PlacedLists
 pub mod Phases
+pub mod KeptBySteps
+pub mod Standing
+pub mod Inside
+pub mod OlderBytes

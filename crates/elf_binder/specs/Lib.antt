@@ -7,3 +7,4 @@ pub mod Binding
 pub mod Refusals
 pub mod Sources
 pub mod Laws
+pub mod BindingLaws

@@ -3,7 +3,10 @@
 ghost use Rattle.std.specs.Prelude.{◌≡◌, ◌≤◌, length, IfOk};
 ghost use Rattle.elf_binder.specs.Refusals.{AreRead};
 
-use crate::{BindBad, Bound, bind};
+use crate::{
+    BindBad, Bound, bases_are_whole, bind, binding_keeps_older_bytes, libraries_lie_apart,
+    relocations_stay_inside,
+};
 use bound_base::{Bytes, Items, Rights};
 use elf_reader::{Elf, ElfBad, ElfPart, read_elf};
 use native_memory::{Kind, Memory};
@@ -304,6 +307,15 @@ fn a_broken_library_is_named_with_its_place(rt: HostRuntime) -> Result<(), Fail>
         };
         assert_eq!(rt; bad, Some(want), "{at}");
     }
+    Ok(())
+}
+
+#[test]
+fn laws_are_called(_rt: HostRuntime) -> Result<(), Fail> {
+    bases_are_whole();
+    libraries_lie_apart();
+    relocations_stay_inside();
+    binding_keeps_older_bytes();
     Ok(())
 }
 

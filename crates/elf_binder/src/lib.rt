@@ -3,6 +3,7 @@
 #![tactic(auto)]
 
 mod binding;
+mod binding_laws;
 mod bound;
 mod host_names;
 mod index;
@@ -20,6 +21,9 @@ mod symbol_values;
 mod texts;
 
 pub use binding::bind;
+pub use binding_laws::{
+    bases_are_whole, binding_keeps_older_bytes, libraries_lie_apart, relocations_stay_inside,
+};
 pub use bound::Bound;
 pub use host_names::host_address;
 pub use laws::{

@@ -100,13 +100,11 @@ fn write_value(
     ensures ok { OnOk result (written_at memory.old addr (bytes_for kind base symbol addend) ≡ Some memory.new) }
     ensures err { OnErr result (written_at memory.old addr (bytes_for kind base symbol addend) ≡ None) }
 {
+    let sum = symbol.wrapping_add(addend);
     match kind {
         Kind::Nothing => memory.write(addr, &[]),
-        Kind::Absolute32 => memory.write(
-            addr,
-            &low_half(symbol.wrapping_add(addend)).to_le_bytes(),
-        ),
-        Kind::Absolute64 => memory.write(addr, &symbol.wrapping_add(addend).to_le_bytes()),
+        Kind::Absolute32 => memory.write(addr, &low_half(sum).to_le_bytes()),
+        Kind::Absolute64 => memory.write(addr, &sum.to_le_bytes()),
         Kind::Relative => memory.write(addr, &base.wrapping_add(addend).to_le_bytes()),
         Kind::JumpSlot => memory.write(addr, &symbol.to_le_bytes()),
     }
