@@ -29,7 +29,7 @@ agree_in from len a b size e = record {
   size = size;
 }
 
-little_same : (i n : ℕ) (xs ys : List ℕ) → ((j : ℕ) → i ≤ j → j < i + n → slice_index xs j ≡ slice_index ys j) → little_from i n xs ≡ little_from i n ys
+pub little_same : (i n : ℕ) (xs ys : List ℕ) → ((j : ℕ) → i ≤ j → j < i + n → slice_index xs j ≡ slice_index ys j) → little_from i n xs ≡ little_from i n ys
 little_same i zero xs ys h = refl
 little_same i (suc n) xs ys h =
     let first : slice_index xs i ≡ slice_index ys i = h i (omega arith) (omega arith) in

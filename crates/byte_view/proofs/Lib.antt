@@ -5,3 +5,5 @@ pub mod Sound
 pub mod Within
 pub mod Agreeing
 pub mod Heads
+pub mod Loads
+pub mod WorkedElf

@@ -18,3 +18,4 @@ pub mod ElfSymbols
 pub mod ElfRelocations
 pub mod Library
 pub mod ElfLaws
+pub mod ElfExamples

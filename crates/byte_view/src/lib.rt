@@ -1,6 +1,8 @@
 //! Numbers in bytes, and in `specs/` the formats that are read from bytes.
 #![tactic(auto)]
 
+pub mod elf_examples;
+pub mod elf_laws;
 pub mod examples;
 pub mod laws;
 mod numbers;

@@ -1,8 +1,10 @@
 pub mod Steps
 pub mod Modules
+pub mod Index
 pub mod Loading
 pub mod Relocating
 pub mod Binding
 pub mod Refusals
-pub mod Index
+pub mod Sources
 pub mod Laws
+pub mod BindingLaws

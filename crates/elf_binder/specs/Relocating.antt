@@ -34,9 +34,13 @@ width_of Absolute64 = 8
 width_of Relative = 8
 width_of JumpSlot = 8
 
--- one writable load has the addresses, as they are before the base is added
+-- the load is writable, and has the addresses, as they are before the base is added
+abbrev pub is_target : ℕ → ℕ → Load → Bool
+is_target at len load = load.writable && nat_le load.vaddr at && nat_le (at + len) (load.vaddr + load.size)
+
+-- one writable load has the addresses
 unfoldable pub is_writable : List Load → ℕ → ℕ → Bool
-is_writable loads at len = list_any (λ load. load.writable && nat_le load.vaddr at && nat_le (at + len) (load.vaddr + load.size)) loads
+is_writable loads at len = list_any (is_target at len) loads
 
 -- a call through the jump slot of an unknown function faults when it is made: no function stands at this address
 abbrev pub unknown_function : ℕ

@@ -2,17 +2,28 @@
 //! Dynamic Linking'; RISC-V psABI).
 #![tactic(auto)]
 
+mod binding;
+mod binding_laws;
 mod bound;
 mod host_names;
 mod index;
+mod initializers;
 mod laws;
 mod library_names;
+mod loading;
 mod module;
 mod refusal;
+mod relocating;
 mod relocation;
 mod scope;
+mod source;
+mod symbol_values;
 mod texts;
 
+pub use binding::bind;
+pub use binding_laws::{
+    bases_are_whole, binding_keeps_older_bytes, libraries_lie_apart, relocations_stay_inside,
+};
 pub use bound::Bound;
 pub use host_names::host_address;
 pub use laws::{
@@ -22,3 +33,8 @@ pub use laws::{
 pub use module::{Export, Module, is_defined};
 pub use refusal::BindBad;
 pub use scope::address_of;
+
+#[cfg(test)]
+mod binding_tests;
+#[cfg(test)]
+mod tests;

@@ -33,12 +33,13 @@ fn library_of(modules: &[Module], front: &[u8], name: &[u8], back: &[u8]) -> Opt
     requires { length modules.now ≤ 16 }
     ensures { result ≡ named modules.now (front.now ++ name.now ++ back.now) }
 {
-    let number = position_of(modules, front, name, back)?;
+    let number = place_of(modules, front, name, back)?;
     Some(number as u32)
 }
 
+/// The same as a place among the libraries.
 #[tactic(auto, unfolding(crate::specs::Modules::named))]
-fn position_of(modules: &[Module], front: &[u8], name: &[u8], back: &[u8]) -> Option<usize>
+fn place_of(modules: &[Module], front: &[u8], name: &[u8], back: &[u8]) -> Option<usize>
     ensures number { result ≡ named modules.now (front.now ++ name.now ++ back.now) }
     ensures within { IfSome result (λ number. number < length modules.now) }
 {

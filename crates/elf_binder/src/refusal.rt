@@ -3,6 +3,7 @@
 ghost use Rattle.std.specs.Prelude.{◌≡◌};
 ghost use Rattle.elf_binder.specs.declared.refusal.BindBad.TheVariants.{Memory};
 
+use bound_base::NoMemory;
 use elf_reader::ElfPart;
 use std::alloc::{AllocError, AllocFailed};
 use thiserror::Error;
@@ -30,6 +31,14 @@ impl<T: Drop> From<AllocFailed<T>> for BindBad {
     ghost from_gives = { λ _ e. e ≡ Memory };
 
     fn from(_: AllocFailed<T>) -> BindBad {
+        BindBad::Memory
+    }
+}
+
+impl From<NoMemory> for BindBad {
+    ghost from_gives = { λ _ e. e ≡ Memory };
+
+    fn from(_: NoMemory) -> BindBad {
         BindBad::Memory
     }
 }

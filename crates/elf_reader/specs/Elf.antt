@@ -1,5 +1,5 @@
 -- What an `Elf` says of a file: the library of the definitions.
-use Rattle.std.specs.Prelude.{List, map}
+use Rattle.std.specs.Prelude.{map}
 use Rattle.byte_view.specs.ElfLoads as loads
 use Rattle.byte_view.specs.ElfSymbols as symbols
 use Rattle.byte_view.specs.ElfRelocations as relocations

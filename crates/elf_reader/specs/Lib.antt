@@ -1,2 +1,5 @@
 pub mod Elf
 pub mod Refusals
+pub mod Loads
+pub mod Dynamic
+pub mod Names

@@ -1,0 +1,10 @@
+pub mod Steps
+pub mod Positions
+pub mod ProgramHeaders
+pub mod Words
+pub mod Mapped
+pub mod Bisected
+pub mod LoadSteps
+pub mod Entries
+pub mod Texts
+pub mod Buckets
