@@ -2,8 +2,9 @@
 
 ghost use Rattle.std.specs.Prelude.{◌≤◌, length};
 
-use crate::run_calls;
+use crate::{laws, run_calls, run_symbol};
 use bound_base::{Ending, Rights};
+use elf_binder::bind;
 use native_memory::{Fault, Kind, Memory};
 use std::alloc::Global;
 use std::test::Fail;
@@ -79,6 +80,8 @@ fn given(alloc: Global, code: &[u32], words: &[u64], fuel: u64) -> Result<Result
 
 #[test]
 fn a_run_takes_as_much_fuel_as_it_has_events(rt: HostRuntime) -> Result<(), Fail> {
+    laws::events_take_fuel();
+    laws::more_fuel_is_the_same();
     // The beginning, two instructions, and the end.
     for (fuel, want) in [
         (0, Err(Ending::Spent)),
@@ -100,6 +103,7 @@ fn a_run_takes_as_much_fuel_as_it_has_events(rt: HostRuntime) -> Result<(), Fail
 
 #[test]
 fn a_loop_spends_all_fuel(rt: HostRuntime) -> Result<(), Fail> {
+    laws::runs_end();
     // `j .`
     for fuel in [0, 1, 2, 3, 100, 100_000] {
         let spent = given(rt.alloc(), &[0x0000_006F], &[], fuel)?;
@@ -131,6 +135,8 @@ fn registers_at_an_entry(rt: HostRuntime) -> Result<(), Fail> {
 
 #[test]
 fn places_below_65536(rt: HostRuntime) -> Result<(), Fail> {
+    laws::host_functions_have_places();
+    laws::faults_name_their_place();
     for (load, want) in [
         // `li t0,..`: the new block stands behind the segment; its four events and the end
         (0x2000_0293, Ok(0x12_0410)),
@@ -163,6 +169,7 @@ fn host_functions_return_to_ra(rt: HostRuntime) -> Result<(), Fail> {
 
 #[test]
 fn initializers_run_in_order(rt: HostRuntime) -> Result<(), Fail> {
+    laws::initializers_come_first();
     // The number is doubled, then 1 more; each initializer leaves 7 in a1.
     let double = [LOAD[0], LOAD[1], 0x0063_0333, STORE, 0x0070_0593, RET];
     let more = [LOAD[0], LOAD[1], 0x0013_0313, STORE, 0x0070_0593, RET];
@@ -187,6 +194,7 @@ fn initializers_run_in_order(rt: HostRuntime) -> Result<(), Fail> {
 
 #[test]
 fn an_initializer_faults(rt: HostRuntime) -> Result<(), Fail> {
+    laws::ended_runs_stay();
     for (fuel, want) in [
         (0, Ending::Spent),
         (1, Ending::Spent),
@@ -204,5 +212,21 @@ fn an_initializer_faults(rt: HostRuntime) -> Result<(), Fail> {
         );
         assert_eq!(rt; got, Err(want), "fuel {fuel}");
     }
+    Ok(())
+}
+
+#[test]
+fn a_function_is_called_where_libraries_are_bound(rt: HostRuntime) -> Result<(), Fail> {
+    let mut memory = memory_with(rt.alloc(), [&ADD, &[], &[]])?;
+    let bound = bind(rt.alloc(), &[], &[], &[], &mut memory)?;
+    let got = run_symbol(
+        rt.alloc(),
+        &bound,
+        &mut memory,
+        CODE + 0x100,
+        &[2, 3],
+        10_000_000,
+    );
+    assert_eq!(rt; got, Ok(5));
     Ok(())
 }
