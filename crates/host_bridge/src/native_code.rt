@@ -10,7 +10,7 @@ use native_memory::Memory;
 use rv_machine::{Regs, Step, step};
 use std::alloc::Global;
 
-/// What native code came to in one event. Where it didn't go on, its registers and memory are as they were.
+/// What native code came to in one event. Where it returned, registers and memory are as they were; where it faulted, memory is.
 #[derive(Clone, Copy, Debug, PartialEq, Eq)]
 pub enum Turn {
     /// An instruction or a host function was done.

@@ -15,7 +15,8 @@ pub fn program_words_are_free()
     ensures { ProgramWordsAreFree }
 {}
 
-/// Whatever the bytes of a library are: `native` answers them with a number and 0, or with 205, 208, 213 or 214.
+/// Whatever the bytes of a library are, the definition answers them with a number and 0, or with 205, 208, 213 or 214. Beside that
+/// a put can fail, or memory be wanting.
 pub fn native_has_five_statuses()
     ensures { NativeHasFiveStatuses }
 {}
