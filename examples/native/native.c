@@ -169,10 +169,10 @@ number overlapped(number count, number by)
     return sum;
 }
 
-/* Signed and unsigned division, with remainders, in one number. */
+/* Signed and unsigned division, with remainders, in one number; 0 for the divisors with which C leaves one of them open. */
 number divisions(number a, number b)
 {
-    if (b == 0)
+    if (b == 0 || b == -1ul)
         return 0;
     long quotient = (long)a / (long)b, rest = (long)a % (long)b;
     word narrow = (word)a / ((word)b | 1), narrow_rest = (word)a % ((word)b | 1);
