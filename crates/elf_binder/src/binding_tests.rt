@@ -264,9 +264,8 @@ fn initializers_come_library_after_library(rt: HostRuntime) -> Result<(), Fail> 
     files.push(library(alloc)?)?;
     files.push(library(alloc)?)?;
     let mut names = Items::new(alloc);
-    for name in [b"libone.so", b"libtwo.so"] {
-        names.push(Bytes::from_vec(name.to_vec(alloc)?))?;
-    }
+    names.push(Bytes::from_vec(b"libone.so".to_vec(alloc)?))?;
+    names.push(Bytes::from_vec(b"libtwo.so".to_vec(alloc)?))?;
     let mut memory = started(alloc)?;
     let bound = bound(alloc, files.as_slice(), names.as_slice(), &mut memory)?
         .ok()
