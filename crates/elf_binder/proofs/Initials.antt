@@ -1,5 +1,5 @@
 -- The initializers of a library, one after another.
-use Rattle.std.proofs.Common.{◌≡◌, ℕ, zero, suc, ◌+◌, ◌-◌, ◌*◌, ◌/◌, ◌≤◌, Bool, true, false, cond, List, [], ◌∷◌, ◌++◌, length, map, filter, take, drop, Option, Some, None, Result, Ok, Err, refl, sym, ap, ◌∙◌, append_assoc, arith}
+use Rattle.std.proofs.Common.{◌≡◌, ℕ, ◌+◌, ◌-◌, ◌*◌, Bool, true, false, cond, List, [], ◌∷◌, ◌++◌, length, map, filter, take, drop, Some, None, Ok, Err, refl, ◌∙◌, append_assoc, arith}
 use Rattle.std.specs.List.{range_with_len}
 use Rattle.std.proofs.lemmas.List.FromFn.{filter_of_map_range_with_len_more}
 use Rattle.std.proofs.Math.Seq.{take-length}
@@ -9,7 +9,6 @@ use Rattle.byte_view.specs.Numbers.{le}
 use Rattle.byte_view.specs.ElfParts as parts
 use Rattle.native_memory.specs.AddressSpace.{AddressSpace}
 use Rattle.native_memory.specs.Ranges.{may_read, bytes_at}
-use Rattle.elf_binder.specs.Steps.{Unbound, ◌>>=◌}
 use Rattle.elf_binder.specs.Modules.{moved}
 use Rattle.elf_binder.specs.Loading.{Source}
 use Rattle.elf_binder.specs.Binding.{doublewords, is_initializer, first_initializer, initializers, and_initializers}

@@ -1,23 +1,23 @@
 -- What relocations leave as it was: all bytes outside of the writable loads of their library.
-use Rattle.std.proofs.Common.{◌≡◌, ℕ, zero, suc, ◌+◌, ◌-◌, ◌<◌, ◌≤◌, ◌⊎◌, inl, inr, Bool, true, false, ◌&&◌, ◌||◌, cond, List, [], ◌∷◌, ◌++◌, length, Option, Some, None, Result, Ok, Err, refl, sym, ap, ◌∙◌, subst, arith}
-use Rattle.std.specs.Prelude.{nat_le, nat_lt, nat_eq, if◌then◌else◌, slice_get, slice_index_or, zip, Contains}
+use Rattle.std.proofs.Common.{◌≡◌, ℕ, suc, ◌+◌, ◌-◌, ◌<◌, ◌≤◌, Bool, true, false, ◌&&◌, ◌||◌, List, [], ◌∷◌, length, Option, Some, None, Ok, refl, ap, ◌∙◌, subst, arith}
+use Rattle.std.specs.Prelude.{nat_le, nat_lt, if◌then◌else◌, slice_get, Contains}
 use Rattle.std.specs.List.{list_any}
 use Rattle.std.specs.Option.{ok_or}
 use Rattle.std.specs.Int.{w64, cast_unsigned}
 use Rattle.std.proofs.lemmas.Bool.{and_parts, leb-true, ltb-true}
-use Rattle.byte_view.specs.ElfLoads.{Load, end_of}
+use Rattle.byte_view.specs.ElfLoads.{Load}
 use Rattle.byte_view.specs.ElfRelocations.{Relocation}
 use Rattle.byte_view.specs.ElfParts as parts
 use Rattle.native_memory.specs.AddressSpace.{AddressSpace}
 use Rattle.native_memory.specs.Ranges.{written_at}
 use Rattle.native_memory.specs.Sound.{IsSound}
-use Rattle.native_memory.specs.Laws.{byte_at, Follows}
+use Rattle.native_memory.specs.Laws.{byte_at}
 use Rattle.native_memory.specs.Laws.Follows.{Writes}
 use Rattle.native_memory.proofs.Reached.{follows_on}
 use Rattle.native_memory.proofs.WrittenBytes.{written_bytes}
 use Rattle.elf_binder.specs.declared.relocation.Kind.{Kind}
 use Rattle.elf_binder.specs.declared.relocation.Kind.TheVariants.{Nothing, Absolute32, Absolute64, Relative, JumpSlot}
-use Rattle.elf_binder.specs.Steps.{Unbound, ◌>>=◌, must, steps}
+use Rattle.elf_binder.specs.Steps.{Unbound, must}
 use Rattle.elf_binder.specs.Modules.{Module}
 use Rattle.elf_binder.specs.Loading.{Source}
 use Rattle.elf_binder.specs.Relocating.{kind_of, width_of, is_target, is_writable, value_for, bytes_for, write_relocation, relocate_as, relocate, relocate_library}

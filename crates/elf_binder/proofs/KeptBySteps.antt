@@ -1,5 +1,5 @@
 -- What each step keeps is kept by all of them.
-use Rattle.std.proofs.Common.{◌≡◌, List, [], ◌∷◌, Result, Ok, Err, refl, sym, subst}
+use Rattle.std.proofs.Common.{◌≡◌, List, [], ◌∷◌, Result, Ok, Err, refl, subst}
 use Rattle.elf_binder.specs.Steps.{Unbound, ◌>>=◌, steps}
 use Rattle.elf_binder.proofs.InFile.{Each}
 

@@ -7,7 +7,7 @@ pub mod Refusing
 pub mod Finding
 pub mod Indexing
 pub mod Spelling
-pub mod AnyOf
+pub mod TargetLoads
 pub mod Writing
 pub mod SymbolPlaces
 pub mod Initials

@@ -1,10 +1,10 @@
 -- What stood in memory before libraries were bound has its bytes.
-use Rattle.std.proofs.Common.{◌≡◌, ℕ, ◌<◌, List, [], ◌∷◌, Result, Ok, All, refl, sym, ap, ◌∙◌, subst, arith}
+use Rattle.std.proofs.Common.{◌≡◌, ℕ, ◌<◌, List, [], ◌∷◌, Ok, All, subst, arith}
 use Rattle.std.specs.Prelude.{zip}
 use Rattle.native_memory.specs.AddressSpace.{AddressSpace}
 use Rattle.native_memory.specs.Sound.{IsSound}
 use Rattle.native_memory.specs.Laws.{byte_at}
-use Rattle.elf_binder.specs.Steps.{Unbound, ◌>>=◌, steps}
+use Rattle.elf_binder.specs.Steps.{steps}
 use Rattle.elf_binder.specs.Modules.{Module}
 use Rattle.elf_binder.specs.Loading.{Source, Placed, place_library, place_all}
 use Rattle.elf_binder.specs.Relocating.{relocate_library}

@@ -1,10 +1,10 @@
 -- The phases of binding, one after another.
-use Rattle.std.proofs.Common.{◌≡◌, ℕ, ◌≤◌, List, [], ◌∷◌, length, Result, Ok, Err, refl, arith}
+use Rattle.std.proofs.Common.{◌≡◌, ℕ, ◌≤◌, List, [], ◌∷◌, length, Ok, Err, refl, arith}
 use Rattle.std.specs.Prelude.{zip}
 use Rattle.native_memory.specs.AddressSpace.{AddressSpace}
-use Rattle.elf_binder.specs.Steps.{Unbound, ◌>>=◌, steps}
+use Rattle.elf_binder.specs.Steps.{Unbound, steps}
 use Rattle.elf_binder.specs.Modules.{Module}
-use Rattle.elf_binder.specs.Loading.{Source, Placed, place_all}
+use Rattle.elf_binder.specs.Loading.{Source, place_all}
 use Rattle.elf_binder.specs.Relocating.{relocate_library}
 use Rattle.elf_binder.specs.Binding.{modules_of, and_initializers, bindings}
 

@@ -1,14 +1,14 @@
 -- Placing one load, and where the newest block ends then.
-use Rattle.std.proofs.Common.{◌≡◌, ℕ, zero, suc, ◌+◌, ◌-◌, ◌<◌, ◌≤◌, ◌^◌, max, Bool, true, false, cond, List, [], ◌∷◌, ◌++◌, length, take, drop, Option, Some, None, Result, Ok, Err, refl, sym, ap, ◌∙◌, arith}
-use Rattle.std.specs.Prelude.{nat_eq, ◌==◌, if◌then◌else◌}
+use Rattle.std.proofs.Common.{◌≡◌, ℕ, ◌+◌, ◌≤◌, max, Bool, true, false, List, [], ◌∷◌, ◌++◌, Option, Some, None, Result, Ok, Err, refl, ap, ◌∙◌, arith}
+use Rattle.std.specs.Prelude.{nat_eq, if◌then◌else◌}
 use Rattle.std.specs.Option.{ok_or}
 use Rattle.std.proofs.lemmas.Bool.Decides.{nat_tests}
 use Rattle.byte_view.specs.ElfLoads.{Load, end_of}
 use Rattle.byte_view.specs.ElfParts as parts
 use Rattle.native_memory.specs.AddressSpace.{Block, AddressSpace}
 use Rattle.native_memory.specs.Placement.{placed_at}
-use Rattle.elf_binder.specs.Steps.{Unbound, ◌>>=◌}
-use Rattle.elf_binder.specs.Loading.{Source, Placed, rights_of, bytes_of, base_for, place_load, place_loads, place_library}
+use Rattle.elf_binder.specs.Steps.{Unbound}
+use Rattle.elf_binder.specs.Loading.{Source, rights_of, bytes_of, base_for, place_load, place_loads, place_library}
 
 -- a load of some bytes is placed, or there is no room for it
 abbrev pub placing : Source → ℕ → AddressSpace → Load → Option AddressSpace

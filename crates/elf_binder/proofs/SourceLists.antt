@@ -1,5 +1,5 @@
 -- The list of the libraries that are bound.
-use Rattle.std.proofs.Common.{◌≡◌, ℕ, zero, suc, ◌+◌, ◌<◌, ◌≤◌, List, [], ◌∷◌, length, map, Option, Some, None, Result, Ok, Err, refl, sym, ap, ◌∙◌, add-one, arith}
+use Rattle.std.proofs.Common.{◌≡◌, ℕ, zero, suc, ◌+◌, List, [], ◌∷◌, length, map, Some, Ok, refl, ap, arith}
 use Rattle.std.specs.Prelude.{slice_get}
 use Rattle.byte_view.specs.Library.{Library, library}
 use Rattle.elf_reader.specs.declared.elf.Elf.{Elf}

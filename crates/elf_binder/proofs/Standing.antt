@@ -1,6 +1,6 @@
 -- Where libraries stand once all are placed, and what placing leaves as it was.
-use Rattle.std.proofs.Common.{◌≡◌, ℕ, zero, suc, ◌+◌, ◌-◌, ◌*◌, ◌/◌, ◌%◌, ◌<◌, ◌≤◌, ◌^◌, ◌⊎◌, inl, inr, max, min, Bool, true, false, ◌&&◌, cond, List, [], ◌∷◌, ◌++◌, length, replicate, take, drop, get_or, Option, Some, None, Result, Ok, Err, All, refl, sym, ap, ◌∙◌, subst, append_assoc, append-nil, arith}
-use Rattle.std.specs.Prelude.{nat_eq, nat_le, ◌==◌, if◌then◌else◌, slice_get, zip, Contains, find}
+use Rattle.std.proofs.Common.{◌≡◌, ℕ, zero, suc, ◌+◌, ◌-◌, ◌%◌, ◌<◌, ◌≤◌, max, Bool, true, false, cond, List, [], ◌∷◌, ◌++◌, length, replicate, drop, Option, Some, None, Result, Ok, All, refl, sym, ap, ◌∙◌, subst, append_assoc, append-nil, arith}
+use Rattle.std.specs.Prelude.{nat_eq, nat_le, if◌then◌else◌, slice_get, zip, Contains, find}
 use Rattle.std.specs.Option.{ok_or}
 use Rattle.std.proofs.lemmas.Bool.Decides.{nat_tests}
 use Rattle.std.proofs.lemmas.List.{length-take}
@@ -12,11 +12,11 @@ use Rattle.native_memory.specs.declared.kind.Kind.TheVariants.{Segment}
 use Rattle.native_memory.specs.AddressSpace.{Block, AddressSpace}
 use Rattle.native_memory.specs.Placement.{placed_at, edge_of, holds_address, with_behind}
 use Rattle.native_memory.specs.Sound.{IsSound}
-use Rattle.native_memory.specs.Laws.{byte_at, Follows}
+use Rattle.native_memory.specs.Laws.{byte_at}
 use Rattle.native_memory.specs.Laws.Follows.{PlacesAt}
 use Rattle.native_memory.proofs.Reached.{GoesOn, follows_on}
-use Rattle.elf_binder.specs.Steps.{Unbound, ◌>>=◌, steps}
-use Rattle.elf_binder.specs.Loading.{Source, Placed, base_for, rights_of, bytes_of, place_load, place_loads, place_library, place_all}
+use Rattle.elf_binder.specs.Steps.{Unbound, steps}
+use Rattle.elf_binder.specs.Loading.{Source, Placed, base_for, rights_of, bytes_of, place_load, place_loads, place_library}
 use Rattle.elf_binder.specs.Sources.{IsRead}
 use Rattle.elf_binder.proofs.InFile.{Each, each_contained}
 use Rattle.elf_binder.proofs.KeptBySteps.{went, same_ok}

@@ -1,7 +1,7 @@
 -- Steps that are taken one after another: how far they have come.
-use Rattle.std.proofs.Common.{◌≡◌, ℕ, zero, suc, ◌+◌, ◌<◌, ◌≤◌, List, [], ◌∷◌, length, drop, Option, Some, None, Result, Ok, Err, refl, sym, ap, ◌∙◌, add-one, arith}
+use Rattle.std.proofs.Common.{◌≡◌, ℕ, zero, suc, ◌+◌, ◌≤◌, List, [], ◌∷◌, length, drop, Some, Result, Ok, Err, refl, ◌∙◌, add-one, arith}
 use Rattle.std.specs.Prelude.{slice_get}
-use Rattle.elf_binder.specs.Steps.{Unbound, ◌>>=◌, steps}
+use Rattle.elf_binder.specs.Steps.{Unbound, steps}
 
 -- after the steps of the first k elements, those of the rest are still to be taken
 pub record Came {S A : Type 0} (step : S → A → Result S Unbound) (first : S) (all : List A) (now : S) (k : ℕ) : Type 0 where

@@ -1,5 +1,5 @@
 -- One relocation: where it writes, and how it ends.
-use Rattle.std.proofs.Common.{◌≡◌, ℕ, ◌+◌, ◌<◌, ◌≤◌, ◌^◌, Bool, true, false, ◌&&◌, ◌||◌, List, [], ◌∷◌, length, Option, Some, None, Result, Ok, Err, refl, sym, arith}
+use Rattle.std.proofs.Common.{◌≡◌, ℕ, ◌+◌, ◌<◌, ◌≤◌, ◌^◌, Bool, true, false, ◌&&◌, ◌||◌, List, [], ◌∷◌, Some, None, Ok, Err, refl, arith}
 use Rattle.std.specs.Prelude.{nat_le}
 use Rattle.std.specs.List.{list_any}
 use Rattle.std.specs.Int.{w64, cast_unsigned}
@@ -13,11 +13,10 @@ use Rattle.native_memory.specs.Ranges.{written_at}
 use Rattle.elf_binder.specs.declared.relocation.Kind.{Kind}
 use Rattle.elf_binder.specs.contracts.relocation.Kind.{the_type}
 use denote.Enum.Bare.{sameb}
-use Rattle.elf_binder.specs.Steps.{Unbound, ◌>>=◌}
 use Rattle.elf_binder.specs.Modules.{Module}
 use Rattle.elf_binder.specs.Loading.{Source}
 use Rattle.elf_binder.specs.declared.relocation.Kind.TheVariants.{Nothing, Absolute32, Absolute64, Relative, JumpSlot}
-use Rattle.elf_binder.specs.Relocating.{kind_of, width_of, is_target, is_writable, value_for, bytes_for, write_relocation, relocate_as, relocate}
+use Rattle.elf_binder.specs.Relocating.{kind_of, width_of, is_target, is_writable, value_for, bytes_for, write_relocation, relocate}
 use Rattle.elf_binder.specs.Sources.{IsRead}
 use Rattle.elf_binder.proofs.InFile.{Each, each_contained}
 
@@ -87,3 +86,10 @@ written_as modules source base space r Absolute32 is same = rw is refl
 written_as modules source base space r Absolute64 is same = rw is refl
 written_as modules source base space r Relative is same = rw is refl
 written_as modules source base space r JumpSlot is same = rw is refl
+
+pub some_width : (kind : Kind) → sameb the_type kind Nothing ≡ false → 0 < width_of kind
+some_width Nothing same = absurd (cc)
+some_width Absolute32 same = omega arith
+some_width Absolute64 same = omega arith
+some_width Relative same = omega arith
+some_width JumpSlot same = omega arith

@@ -1,5 +1,5 @@
 -- Laws of names.
-use Rattle.std.specs.Prelude.{◌≡◌, ℕ, ◌<◌, ◌≤◌, ◌⊎◌, List, [], ◌∷◌, ◌++◌, All, Option, Some, None}
+use Rattle.std.specs.Prelude.{◌≡◌, ℕ, ◌≤◌, ◌⊎◌, List, [], ◌∷◌, ◌++◌, All, Some, None}
 use Rattle.byte_view.specs.ElfSymbols.{Symbol}
 use Rattle.native_memory.specs.AddressSpace.{AddressSpace}
 use Rattle.native_memory.specs.Placement.{base_of}

@@ -18,6 +18,7 @@ mod relocation;
 mod scope;
 mod source;
 mod symbol_values;
+mod targets;
 mod texts;
 
 pub use binding::bind;

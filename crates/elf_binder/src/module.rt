@@ -66,6 +66,7 @@ impl Module {
         })
     }
 
+    /// Its name.
     pub fn name(&self) -> &[u8]
         ensures { result.now ≡ self.now.name }
     {

@@ -1,10 +1,10 @@
 //! Relocates libraries (RISC-V psABI, 'Relocations').
 
-ghost use Rattle.std.specs.Prelude.{◌≡◌, ◌+◌, ◌<◌, ◌≤◌, ◌%◌, ◌^◌, length, map, Some, None, OnOk, OnErr};
+ghost use Rattle.std.specs.Prelude.{◌≡◌, ◌+◌, ◌<◌, ◌≤◌, ◌%◌, ◌^◌, length, Some, None, OnOk, OnErr};
 ghost use Rattle.std.specs.Int.{w64, cast_unsigned};
 ghost use Rattle.native_memory.specs.Ranges.{written_at};
-ghost use Rattle.elf_reader.specs.Elf.{load_of, relocation_of};
-ghost use Rattle.elf_binder.specs.Relocating.{is_target, is_writable, bytes_for, write_relocation, relocate, relocate_library};
+ghost use Rattle.elf_reader.specs.Elf.{relocation_of};
+ghost use Rattle.elf_binder.specs.Relocating.{width_of, bytes_for, write_relocation, relocate, relocate_library};
 ghost use Rattle.elf_binder.specs.Refusals.{Gives};
 ghost use Rattle.elf_binder.specs.Sources.{source_of, IsRead};
 
@@ -13,7 +13,8 @@ use crate::refusal::BindBad;
 use crate::relocation::Kind;
 use crate::source::{Source, broken};
 use crate::symbol_values::value_for;
-use elf_reader::{ElfPart, Load, Relocation};
+use crate::targets::is_writable;
+use elf_reader::{ElfPart, Relocation};
 use native_memory::{Fault, Memory};
 
 /// Applies the relocations of a library, which stands at a base, in order.
@@ -67,9 +68,10 @@ fn write_relocation(
     requires read { IsRead (source_of source.now) }
     requires low { base ≤ 2 ^ 46 }
     requires entry { r.now.at + 24 ≤ length source.now.file.now }
+    requires some { 0 < width_of kind }
     ensures { Gives (λ _. memory.new) result (write_relocation modules.now (source_of source.now) base memory.old (relocation_of r.now) kind) }
 {
-    if !is_writable(source.elf.loads.as_slice(), r.offset, kind.width()) {
+    if !is_writable(source, r.offset, kind.width()) {
         return Err(broken(source, ElfPart::RelocTarget, r.at));
     }
     let Some(symbol) = value_for(modules, source.elf.symbols.as_slice(), kind, r.symbol) else {
@@ -114,26 +116,4 @@ fn low_half(n: u64) -> u32
     ensures { result ≡ n % 2 ^ 32 }
 {
     (n % (1 << 32)) as u32
-}
-
-/// One writable load has the addresses, as they are before the base is added.
-fn is_writable(loads: &[Load], at: u64, len: u64) -> bool
-    ensures { result ≡ is_writable (map load_of loads.now) at len }
-{
-    for load in loads {
-        if is_target(load, at, len) {
-            return true;
-        }
-    }
-    false
-}
-
-/// The load is writable, and has the addresses.
-fn is_target(load: &Load, at: u64, len: u64) -> bool
-    ensures { result ≡ is_target at len (load_of load.now) }
-{
-    load.rights.w
-        && load.vaddr <= at
-        && at - load.vaddr <= load.size
-        && len <= load.size - (at - load.vaddr)
 }

@@ -1,10 +1,10 @@
-use Rattle.std.proofs.Common.{◌∙◌, map, length, refl, sym, ap, arith}
+use Rattle.std.proofs.Common.{map, refl, arith}
 use Rattle.std.specs.Prelude.{zip}
 use Rattle.std.proofs.lemmas.Option.{slice_get_read}
 use Rattle.elf_reader.specs.Elf.{library_of}
 use Rattle.elf_binder.specs.Binding.{sources_from}
 use Rattle.elf_binder.specs.Sources.{source_of}
-use Rattle.elf_binder.proofs.PlacedLists.{none_named, one_named, all_named}
+use Rattle.elf_binder.proofs.PlacedLists.{one_named}
 use Rattle.elf_binder.proofs.binding.modules.Goals as goal
 
 pub loop-number-preserved : goal.loop-number-preserved

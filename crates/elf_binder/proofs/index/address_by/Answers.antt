@@ -1,6 +1,5 @@
 use Rattle.std.proofs.Common.{◌∙◌, sym, ap}
 use Rattle.std.specs.Bool.{then_some}
-use Rattle.elf_binder.specs.Index.{SplitsAt}
 use Rattle.elf_binder.proofs.Indexing.{found_nowhere, found_nothing, found_export}
 use Rattle.elf_binder.proofs.index.address_by.Goals as goal
 

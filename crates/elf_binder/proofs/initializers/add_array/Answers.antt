@@ -1,4 +1,4 @@
-use Rattle.std.proofs.Common.{◌*◌, drop, ◌∙◌, ap, arith}
+use Rattle.std.proofs.Common.{◌*◌, ◌∙◌, ap}
 use Rattle.byteorder.specs.Endian.{little_number}
 use Rattle.elf_binder.proofs.Initials.{one_entry, rest_is}
 use Rattle.elf_binder.proofs.initializers.add_array.Goals as goal

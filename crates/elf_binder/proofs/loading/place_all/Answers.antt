@@ -1,4 +1,4 @@
-use Rattle.std.proofs.Common.{◌≤◌, [], map, length, ◌∙◌, arith}
+use Rattle.std.proofs.Common.{◌≤◌, [], map, length, arith}
 use Rattle.std.proofs.lemmas.List.{length-map}
 use Rattle.std.proofs.lemmas.Result.{err_from_is_err_and}
 use Rattle.elf_reader.specs.Elf.{library_of}
@@ -7,7 +7,7 @@ use Rattle.elf_binder.specs.Loading.{Placed, place_library, place_all}
 use Rattle.elf_binder.specs.Sources.{source_of}
 use Rattle.elf_binder.proofs.Refusing.{refused}
 use Rattle.elf_binder.proofs.SourceLists.{length-sources, read_at}
-use Rattle.elf_binder.proofs.StepByStep.{none_yet, one_more, it_fails, all_done}
+use Rattle.elf_binder.proofs.StepByStep.{one_more, it_fails, all_done}
 use Rattle.elf_binder.proofs.loading.place_all.Goals as goal
 
 pub place_library-requires : goal.place_library-requires

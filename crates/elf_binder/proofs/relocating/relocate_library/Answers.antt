@@ -1,11 +1,11 @@
-use Rattle.std.proofs.Common.{◌≤◌, map, length, get_or, arith}
+use Rattle.std.proofs.Common.{◌≤◌, map, length, get_or}
 use Rattle.std.proofs.lemmas.List.{length-map}
 use Rattle.std.proofs.lemmas.Result.{err_from_is_err_and}
 use Rattle.elf_reader.specs.Elf.{relocation_of}
 use Rattle.elf_binder.specs.Relocating.{relocate, relocate_library}
 use Rattle.elf_binder.specs.Sources.{source_of}
 use Rattle.elf_binder.proofs.Refusing.{refused}
-use Rattle.elf_binder.proofs.StepByStep.{none_yet, one_more, it_fails, all_done}
+use Rattle.elf_binder.proofs.StepByStep.{one_more, it_fails, all_done}
 use Rattle.elf_binder.proofs.LoadPlaces.{no_relocation, relocation_is, entry_stands}
 use Rattle.elf_binder.proofs.relocating.relocate_library.Goals as goal
 

@@ -1,4 +1,4 @@
-use Rattle.std.proofs.Common.{sym, ap, ◌∙◌, refl}
+use Rattle.std.proofs.Common.{sym, ◌∙◌, refl}
 use Rattle.std.proofs.lemmas.Option.{slice_get_read, slice_get_past}
 use Rattle.elf_binder.proofs.SymbolPlaces.{symbol_zero, value_of_symbol}
 use Rattle.elf_binder.proofs.symbol_values.symbol_value.Goals as goal
