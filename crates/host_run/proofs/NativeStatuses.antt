@@ -1,5 +1,5 @@
 -- The statuses of `native`.
-use Rattle.std.proofs.Common.{◌≡◌, refl, ℕ, List, [], ◌∷◌, Option, Some, None, Result, Ok, Err, arith, eqb}
+use Rattle.std.proofs.Common.{refl, ℕ, List, [], ◌∷◌, Option, Some, None, Result, Ok, Err, arith, eqb}
 use Rattle.std.specs.Prelude.{Contains}
 use Rattle.std.proofs.lemmas.Bool.{cond_both}
 use Rattle.bound_base.specs.declared.ending.Ending.{Ending}
