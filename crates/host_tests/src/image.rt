@@ -30,6 +30,11 @@ const METADATA_BYTES: [u8; 188] = [
     0, b'n', b'a', b't', b'i', b'v', b'e', 0, b'a', b'd', b'd', 0,
 ];
 
+/// Writes a number of eight bytes at a place.
+pub fn set_u64(file: &mut [u8], at: usize, value: u64) {
+    set(file, at, &value.to_le_bytes());
+}
+
 /// Writes a number of four bytes at a place.
 pub fn set_u32(file: &mut [u8], at: usize, value: u32) {
     set(file, at, &value.to_le_bytes());
