@@ -2,6 +2,8 @@ pub mod Numerals
 pub mod Lines
 pub mod Bounds
 pub mod Program
+pub mod RunLines
+pub mod ItemsOfLines
 pub mod Puts
 pub mod Fronts
 pub mod Images

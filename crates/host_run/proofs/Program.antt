@@ -15,7 +15,7 @@ end_stands (word ∷ own) rest none =
     let more : 1 + length own ≡ suc (length own) = omega arith in
     cond-true _ _ _ p.0 ∙ ap (λ n. 1 + n) later ∙ more
 
-run_split : (own rest : List (List ℕ)) → list_all (λ word. not (is_end word)) own ≡ true → run (own ++ codes "--" ∷ rest) ≡ if fits_program rest then option_and_then (said_whole (1 + (length own + 1))) (said_by no_words own) else None
+pub run_split : (own rest : List (List ℕ)) → list_all (λ word. not (is_end word)) own ≡ true → run (own ++ codes "--" ∷ rest) ≡ if fits_program rest then option_and_then (said_whole (1 + (length own + 1))) (said_by no_words own) else None
 unfolding run
 run_split own rest none =
     let at = end_stands own rest none in

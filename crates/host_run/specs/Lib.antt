@@ -8,5 +8,6 @@ pub mod Imports
 pub mod Native
 pub mod NativeLaws
 pub mod Outcome
+pub mod RunItems
 pub mod Stops
 pub mod Texts

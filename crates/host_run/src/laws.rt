@@ -1,6 +1,7 @@
 //! Laws of the line grammar and of `native`: each function's contract is one.
 
 ghost use Rattle.host_run.specs.GrammarLaws.{CommandsKeepBounds, ProgramWordsAreFree};
+ghost use Rattle.host_run.specs.RunItems.{RunLinesSayTheirItems, RunLinesAreItems};
 ghost use Rattle.host_run.specs.NativeLaws.{NativeHasFiveStatuses, PrintedNumbersReadBack};
 
 /// Whatever the words of a line are: the FILE or LIB of a command that they ask for isn't empty and doesn't begin with
@@ -13,6 +14,18 @@ pub fn commands_keep_bounds()
 /// line asks for the same command.
 pub fn program_words_are_free()
     ensures { ProgramWordsAreFree }
+{}
+
+/// FILE, `--lib` and `--fuel` in either spelling, `--report` and `--log` may stand in any order: the line asks for the
+/// command that these items name, with the libraries in their order, and for none where FILE isn't there once, or the
+/// fuel, `--report` or `--log` twice.
+pub fn run_lines_say_their_items()
+    ensures { RunLinesSayTheirItems }
+{}
+
+/// Each line of `run` that asks for a command is one of such items, with or without `--` and the program's words.
+pub fn run_lines_are_items()
+    ensures { RunLinesAreItems }
 {}
 
 /// Whatever the bytes of a library are, the definition answers them with a number and 0, or with 205, 208, 213 or 214. Beside that
