@@ -7,3 +7,4 @@ pub mod Agreeing
 pub mod Heads
 pub mod Loads
 pub mod WorkedElf
+pub mod Outside
