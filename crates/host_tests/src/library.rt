@@ -6,7 +6,7 @@ use rv_decode::Instr;
 use std::alloc::Global;
 use std::test::Fail;
 
-/// Where the type, the machine and the flags stand in a file's header.
+/// Where the machine and the flags stand in a file's header.
 pub const MACHINE: usize = 18;
 
 pub const FLAGS: usize = 48;
