@@ -1,6 +1,6 @@
 # Each target is a few commands. README.md says what plhost is; .ci/run is the whole gate.
 
-.PHONY: demo demo-native build test bench tools
+.PHONY: demo demo-native call build test bench tools
 .DEFAULT_GOAL := demo
 
 # Compiles a small C# program and prints what it imports, and a small C library for RISC-V and calls a function of it. plhost is
@@ -19,6 +19,11 @@ demo-native:
 	$(MAKE) --no-print-directory -C examples/native
 	@echo "demo: has plhost call a function of build/libnative.so; the CRC-32 of the digits 1 to 9 is known to be cbf43926"
 	cd crates/plhost && rt try --data libnative.so=../../build/libnative.so -- native libnative.so checksum_of_digits
+
+# Calls a function of a library, as `make call LIB=libtwice.so CALL="twice 21"`. plhost is built the quick way.
+call:
+	@test -f "$(LIB)" || { echo 'call: say LIB=FILE and CALL="SYMBOL WORD.."'; exit 1; }
+	@cd crates/plhost && rt try --data "$(notdir $(LIB))=$(abspath $(LIB))" -- native "$(notdir $(LIB))" $(CALL)
 
 # Proves plhost and the crates below it, tries it on a small assembly, and leaves it as build/plhost.
 build:
