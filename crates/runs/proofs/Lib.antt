@@ -1,0 +1,4 @@
+pub mod StepsLaws
+pub mod Parts
+pub mod RunEnds
+pub mod Simulations
