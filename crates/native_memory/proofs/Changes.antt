@@ -4,7 +4,7 @@ use Rattle.std.specs.Prelude.{is_some, slice_set}
 use Rattle.std.specs.List.{remove}
 use Rattle.std.proofs.lemmas.Bool.Decides.{nat_tests}
 use Rattle.native_memory.specs.AddressSpace.{Block, AddressSpace, changed}
-use Rattle.native_memory.specs.Ranges.{covers, write_in, counted, may_write, bytes_at, written_at}
+use Rattle.native_memory.specs.Ranges.{covers, write_in, may_write, bytes_at, written_at}
 use Rattle.native_memory.specs.Placement.{stands_at, ended}
 use Rattle.native_memory.specs.InPlace.{is_in_place_at, waits_at, with_contents, adopted, lent_at, taken_back}
 use Rattle.native_memory.specs.Search.{FailsAll, PicksAt}
@@ -62,7 +62,7 @@ written_missing space addr from some missing = rw (ne_false (length from) some, 
 
 pub written_found : (space : AddressSpace) (addr : ℕ) (from : List ℕ) (at : ℕ) (d : Block) → length from ≢ 0
     → PicksAt (covers addr (length from)) space.blocks at × (is_some (bytes_at may_write space addr (length from)) ≡ true)
-    → written_at space addr from ≡ Some (record space { blocks = slice_set space.blocks at (write_in addr from (get_or space.blocks at d)); written = counted space.written (length from) })
+    → written_at space addr from ≡ Some (record space { blocks = slice_set space.blocks at (write_in addr from (get_or space.blocks at d)) })
 unfolding written_at
 written_found space addr from at d some here =
     rw (ne_false (length from) some, here.1, set_is space (covers addr (length from)) (write_in addr from) at d here.0) refl

@@ -57,10 +57,10 @@ live_filtered test blocks =
     omega arith
 
 -- a change of the blocks' contents that leaves where they lie
-pub changed_sound : (old : AddressSpace) (change : Block → Block) (written : ℕ) → KeepsPlace change → ((block : Block) → IsWhole block → IsWhole (change block))
-    → IsSound old → IsSound (record old { blocks = map change old.blocks; written = written })
+pub changed_sound : (old : AddressSpace) (change : Block → Block) → KeepsPlace change → ((block : Block) → IsWhole block → IsWhole (change block))
+    → IsSound old → IsSound (record old { blocks = map change old.blocks })
 unfolding live_bytes
-changed_sound old change written keeps whole sound = record {
+changed_sound old change keeps whole sound = record {
   apart = lie_mapped change lowest old.edge old.blocks keeps sound.apart;
   whole = All-map IsWhole change old.blocks (λ k d within. whole _ (sound.whole k d within));
   edge = sound.edge;
@@ -145,13 +145,13 @@ changed_whole true block other when whole = when refl
 changed_whole false block other when whole = whole
 
 -- a change of the contents of the one block of which a test is true
-pub set_kept : (old : AddressSpace) (test : Block → Bool) (change : Block → Block) (at : ℕ) (d : Block) (count written : ℕ) → IsKept old count → PicksAt test old.blocks at
+pub set_kept : (old : AddressSpace) (test : Block → Bool) (change : Block → Block) (at : ℕ) (d : Block) (count : ℕ) → IsKept old count → PicksAt test old.blocks at
     → KeepsPlace change → ((block : Block) → test block ≡ true → IsWhole block → IsWhole (change block))
-    → IsKept (record old { blocks = slice_set old.blocks at (change (get_or old.blocks at d)); written = written }) count
+    → IsKept (record old { blocks = slice_set old.blocks at (change (get_or old.blocks at d)) }) count
 unfolding live_bytes
-set_kept old test change at d count written kept picks keeps whole =
+set_kept old test change at d count kept picks keeps whole =
     rw (← changed_picked test change old.blocks at d picks) (record {
-      sound = changed_sound old (changed test change) written (changed_keeps test change keeps)
+      sound = changed_sound old (changed test change) (changed_keeps test change keeps)
           (λ block is_whole. changed_whole (test block) block (change block) (λ holds. whole block holds is_whole) is_whole) kept.sound;
       live = kept.live ∙ sym (live_mapped (changed test change) old.blocks (changed_keeps test change keeps));
     })

@@ -56,10 +56,10 @@ fails_appended : (test : Block → Bool) (blocks : List Block) (block : Block) �
 fails_appended test [] block fails last = (last, tt)
 fails_appended test (first ∷ rest) block fails last = (fails.0, fails_appended test rest block fails.1 last)
 
-changed_on : (old : AddressSpace) (test : Block → Bool) (change : Block → Block) (written : ℕ) → KeepsPlace change → ((block : Block) → test block ≡ true → IsWhole block → IsWhole (change block))
-    → IsSound old → GoesOn old (record old { blocks = map (changed test change) old.blocks; written = written })
-changed_on old test change written keeps whole sound = record {
-  sound = changed_sound old (changed test change) written (changed_keeps test change keeps)
+changed_on : (old : AddressSpace) (test : Block → Bool) (change : Block → Block) → KeepsPlace change → ((block : Block) → test block ≡ true → IsWhole block → IsWhole (change block))
+    → IsSound old → GoesOn old (record old { blocks = map (changed test change) old.blocks })
+changed_on old test change keeps whole sound = record {
+  sound = changed_sound old (changed test change) (changed_keeps test change keeps)
       (λ block is_whole. changed_whole (test block) block (change block) (λ holds. whole block holds is_whole) is_whole) sound;
   edge = omega arith;
   free = λ other addr asks low free. fails_mapped other (changed test change) addr old.blocks asks (changed_keeps test change keeps) free;
@@ -121,13 +121,13 @@ follows_on old new sound (PlacesAt _ _ base bytes size rights behind fits is) =
     with_block_on old new _ _ _ refl is sound behind (omega arith) (filled_whole bytes size fits)
 follows_on old new sound (Writes _ _ addr from is) =
     written_on old (with_written old addr from) new _ _ is (same old sound)
-    (changed_on old (covers addr (length from)) (write_in addr from) (counted old.written (length from)) (writes_keep addr from) (writes_whole addr from) sound)
+    (changed_on old (covers addr (length from)) (write_in addr from) (writes_keep addr from) (writes_whole addr from) sound)
 follows_on old new sound (Ends _ _ base is) = ended_on old _ new _ is (filtered_on old (λ block. not (stands_at base block)) sound)
 follows_on old new sound (Adopts _ _ base body is) =
     adopted_on old _ new _ is
-    (changed_on old (waits_at base (length body)) (with_contents (Some body)) old.written (contents_keep (Some body)) (adopts_whole base body) sound)
+    (changed_on old (waits_at base (length body)) (with_contents (Some body)) (contents_keep (Some body)) (adopts_whole base body) sound)
 follows_on old new sound (TakesBack _ base) =
-    changed_on old (is_in_place_at base) (with_contents None) old.written (contents_keep None) (takes_whole base) sound
+    changed_on old (is_in_place_at base) (with_contents None) (contents_keep None) (takes_whole base) sound
 
 -- of a sound state in which an address below the edge is free
 pub reaches_on : (old new : AddressSpace) → IsSound old → Reaches old new → GoesOn old new

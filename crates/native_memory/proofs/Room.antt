@@ -7,7 +7,7 @@ use Rattle.native_memory.specs.declared.kind.Kind.TheVariants.{Segment}
 use Rattle.native_memory.specs.declared.faults.PlaceBad.{PlaceBad}
 use Rattle.native_memory.specs.declared.faults.PlaceBad.TheVariants.{Memory}
 use Rattle.native_memory.specs.AddressSpace.{AddressSpace, live_bytes}
-use Rattle.native_memory.specs.Placement.{Refuses, up_to_16, within_top, with_behind, new_contents, placed, placed_at}
+use Rattle.native_memory.specs.Placement.{FailsToPlace, up_to_16, within_top, with_behind, new_contents, placed, placed_at}
 
 top_if : (test : Bool) (next : ℕ) → (if test then Some next else None) ≡ None → test ≡ false
 top_if true next none = cc
@@ -61,5 +61,5 @@ unfolding placed_at
 placed_at_is space base bytes size rights next top fits within = rw (room _ _ _ _ _ fits within top, (top_then _ _ _ top).1) refl
 
 -- an error for want of memory, where there is room
-pub refuses_memory : (bad : PlaceBad) (change : Option AddressSpace) (new : AddressSpace) → bad ≡ Memory → change ≡ Some new → Refuses bad change
+pub refuses_memory : (bad : PlaceBad) (change : Option AddressSpace) (new : AddressSpace) → bad ≡ Memory → change ≡ Some new → FailsToPlace bad change
 refuses_memory bad change new memory some = rw (memory, some) refl

@@ -18,13 +18,25 @@ pub record Block : Type 0 where
   pub kind : Kind
   pub contents : Option (List ℕ)
 
--- how many bytes may live, where the next block is placed, the end of the block that was placed last, the live blocks in
--- order of their bases, and how many bytes were written in all
+abbrev pub block_of : ℕ → ℕ → Rights → Kind → Option (List ℕ) → Block
+block_of base size rights kind contents =
+    record { base = base; size = size; rights = rights; kind = kind; contents = contents }
+
+-- how many bytes may live, where the next block is placed, the end of the block that was placed
+-- last, and the live blocks in order of their bases
 pub record AddressSpace : Type 0 where
   pub limit : ℕ
   pub next : ℕ
   pub edge : ℕ
   pub blocks : List Block
+
+abbrev pub space_with : ℕ → ℕ → ℕ → List Block → AddressSpace
+space_with limit next edge blocks =
+    record { limit = limit; next = next; edge = edge; blocks = blocks }
+
+-- an address space, and how many bytes were written into it in all, which nothing in it tells
+pub record NativeMemory : Type 0 where
+  pub space : AddressSpace
   pub written : ℕ
 
 -- a change of the blocks of which a test is true, and of no others
@@ -37,7 +49,11 @@ lowest = 65536
 
 -- before the first block
 abbrev pub empty : ℕ → AddressSpace
-empty limit = record { limit = limit; next = lowest; edge = lowest; blocks = []; written = 0 }
+empty limit = record { limit = limit; next = lowest; edge = lowest; blocks = [] }
+
+-- the rights of a block that holds data: to be read and written, and not executed
+abbrev pub data_rights : Rights
+data_rights = record { r = true; w = true; x = false }
 
 abbrev pub size_of : Block → ℕ
 size_of block = block.size

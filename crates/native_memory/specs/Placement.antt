@@ -6,7 +6,7 @@ use Rattle.native_memory.specs.declared.kind.Kind.{Kind}
 use Rattle.native_memory.specs.declared.kind.Kind.TheVariants.{Segment, Stack, Errno, Heap, Temp, InPlace}
 use Rattle.native_memory.specs.declared.faults.PlaceBad.{PlaceBad}
 use Rattle.native_memory.specs.declared.faults.PlaceBad.TheVariants.{Room, Memory}
-use Rattle.native_memory.specs.AddressSpace.{Block, AddressSpace, live_bytes}
+use Rattle.native_memory.specs.AddressSpace.{Block, AddressSpace, block_of, live_bytes}
 
 -- the least multiple of 16 not below
 abbrev pub up_to_16 : ℕ → ℕ
@@ -43,14 +43,18 @@ new_contents size Temp = Some (replicate size 0)
 -- a block at the next address, which moves on by the block's size in whole sixteens and one sixteen more; None without room
 unfoldable pub placed : AddressSpace → ℕ → Rights → Kind → Option AddressSpace
 placed space size rights kind =
-    with_block space (record { base = space.next; size = size; rights = rights; kind = kind; contents = new_contents size kind })
+    with_block space (block_of space.next size rights kind (new_contents size kind))
     (space.next + up_to_16 size + 16)
+
+-- bytes with zeros after them, up to a length
+abbrev pub filled_up : List ℕ → ℕ → List ℕ
+filled_up bytes size = bytes ++ replicate (size - length bytes) 0
 
 -- a segment elsewhere, filled up with zeros; the next address is the multiple of 16 that isn't below its end, and 16 on; None
 -- without room
 unfoldable pub placed_at : AddressSpace → ℕ → List ℕ → ℕ → Rights → Option AddressSpace
 placed_at space base bytes size rights =
-    with_block space (record { base = base; size = size; rights = rights; kind = Segment; contents = Some (bytes ++ replicate (size - length bytes) 0) })
+    with_block space (block_of base size rights Segment (Some (filled_up bytes size)))
     (up_to_16 (base + size) + 16)
 
 -- the block has this base
@@ -87,7 +91,7 @@ abbrev pub Does : Bool → Option AddressSpace → AddressSpace → AddressSpace
 Does true change old new = change ≡ Some new
 Does false change old new = (change ≡ None) × (new ≡ old)
 
--- why a block isn't placed: there is no room for it; or there is room, and no memory, which is free
-abbrev pub Refuses : PlaceBad → Option AddressSpace → Type 0
-Refuses Room change = change ≡ None
-Refuses Memory change = IsSome change
+-- why a block isn't placed: there is no room for it; or there is, and memory for it is wanting
+abbrev pub FailsToPlace : PlaceBad → Option AddressSpace → Type 0
+FailsToPlace Room change = change ≡ None
+FailsToPlace Memory change = IsSome change

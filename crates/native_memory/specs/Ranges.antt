@@ -51,7 +51,7 @@ overwritten bytes at from = take at bytes ++ from ++ drop (at + length from) byt
 abbrev pub write_in : ℕ → List ℕ → Block → Block
 write_in addr from block = record block { contents = option_map (λ bytes. overwritten bytes (addr - block.base) from) block.contents }
 
--- a count of bytes, which ends at 2^64 - 1
+-- a count of written bytes after so many more: it stays at 2^64 - 1 once there
 abbrev pub counted : ℕ → ℕ → ℕ
 counted written len = min (written + len) (2 ^ 64 - 1)
 
@@ -60,7 +60,6 @@ abbrev pub with_written : AddressSpace → ℕ → List ℕ → AddressSpace
 with_written space addr from =
     record space {
       blocks = map (changed (covers addr (length from)) (write_in addr from)) space.blocks;
-      written = counted space.written (length from);
     }
 
 -- a write, None where it faults; one of no bytes changes nothing

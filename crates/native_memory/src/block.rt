@@ -2,7 +2,7 @@
 
 ghost use Rattle.std.specs.Prelude.{◌≡◌, ◌+◌, ◌-◌, ◌≤◌, true, drop, length, is_some, option_map, IfOk, IfSome};
 ghost use Rattle.std.specs.Option.{option_copied};
-ghost use Rattle.native_memory.specs.AddressSpace.{is_heap, listed};
+ghost use Rattle.native_memory.specs.AddressSpace.{is_heap, listed, block_of};
 ghost use Rattle.native_memory.specs.Ranges.{covers, may_read, right_of, open_bytes, part, overwritten, write_in};
 ghost use Rattle.native_memory.specs.InPlace.{is_in_place, is_here};
 ghost use Rattle.native_memory.specs.Sound.{IsWhole};
@@ -31,11 +31,12 @@ struct Body {
 }
 
 impl Model for LiveBlock {
-    ghost use Rattle.native_memory.specs.AddressSpace.{Block, listed};
+    ghost use Rattle.native_memory.specs.AddressSpace.{Block, block_of, listed};
 
     ghost Value = { Block };
 
-    ghost view = { λ it. record { base = it.base; size = it.size; rights = it.body.value.rights; kind = it.body.value.kind; contents = listed it.body.value.contents } };
+    ghost view = { λ it. let body = it.body.value in
+        block_of it.base it.size body.rights body.kind (listed body.contents) };
 }
 
 impl LiveBlock {
@@ -48,7 +49,7 @@ impl LiveBlock {
         kind: Kind,
         contents: Option<Vec<u8>>,
     ) -> Result<LiveBlock, AllocError>
-        ensures { IfOk result (λ it. it ≡ record { base = base; size = size; rights = rights; kind = kind; contents = listed contents }) }
+        ensures { IfOk result (λ it. it ≡ block_of base size rights kind (listed contents)) }
     {
         let body = Box::new(
             alloc,
@@ -114,7 +115,8 @@ impl LiveBlock {
     pub fn part(&self, addr: u64, len: u64, access: Access) -> Option<&[u8]>
         requires covers { covers addr len self.now ≡ true }
         requires whole { IsWhole self.now }
-        ensures value { option_copied result ≡ option_map (part addr len self.now) (open_bytes (right_of access) self.now) }
+        ensures value { option_copied result
+            ≡ option_map (part addr len self.now) (open_bytes (right_of access) self.now) }
         ensures len { IfSome result (λ bytes. length bytes.now ≡ len) }
     {
         if !access.is_allowed(self.body.rights) {
@@ -133,7 +135,8 @@ impl LiveBlock {
     pub fn rest(&self, addr: u64) -> Option<&[u8]>
         requires covers { covers addr 1 self.now ≡ true }
         requires whole { IsWhole self.now }
-        ensures { option_copied result ≡ option_map (drop (addr - self.now.base)) (open_bytes may_read self.now) }
+        ensures { option_copied result
+            ≡ option_map (drop (addr - self.now.base)) (open_bytes may_read self.now) }
     {
         if !self.body.rights.r {
             return None;

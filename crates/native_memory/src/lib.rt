@@ -8,6 +8,7 @@ mod kind;
 mod laws;
 mod memory;
 mod placement;
+mod rights;
 mod search;
 mod steps;
 
@@ -15,6 +16,7 @@ pub use faults::{Fault, PlaceBad};
 pub use kind::Kind;
 pub use laws::{ended_addresses_stay_free, ended_bases_stay_free, writes_change_their_range};
 pub use memory::Memory;
+pub use rights::DATA_RIGHTS;
 pub use steps::Steps;
 
 #[cfg(test)]

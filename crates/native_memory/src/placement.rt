@@ -1,8 +1,8 @@
 //! Where the next block stands, and what a new block holds.
 
-ghost use Rattle.std.specs.Prelude.{◌≡◌, ◌+◌, ◌-◌, ◌*◌, ◌/◌, ◌^◌, ◌<◌, ◌≤◌, ◌++◌, length, replicate, IfOk};
+ghost use Rattle.std.specs.Prelude.{◌≡◌, ◌+◌, ◌-◌, ◌*◌, ◌/◌, ◌^◌, ◌<◌, ◌≤◌, length, replicate, IfOk};
 ghost use Rattle.native_memory.specs.AddressSpace.{listed};
-ghost use Rattle.native_memory.specs.Placement.{up_to_16, within_top, new_contents};
+ghost use Rattle.native_memory.specs.Placement.{up_to_16, within_top, new_contents, filled_up};
 
 use crate::kind::Kind;
 use std::alloc::{AllocError, Global};
@@ -40,10 +40,10 @@ pub fn new_contents(alloc: Global, size: u64, kind: Kind) -> Result<Option<Vec<u
     Ok(Some(zeros(alloc, size as usize)?))
 }
 
-/// Bytes with zeros behind them.
+/// Bytes with zeros after them, up to a length.
 pub fn filled_up(alloc: Global, bytes: &[u8], size: u64) -> Result<Vec<u8>, AllocError>
     requires { length bytes.now ≤ size }
-    ensures { IfOk result (λ contents. contents.items ≡ bytes.now ++ replicate (size - length bytes.now) 0) }
+    ensures { IfOk result (λ contents. contents.items ≡ filled_up bytes.now size) }
 {
     let mut contents = Vec::with_capacity(alloc, size as usize)?;
     contents.extend_from_slice(bytes)?;

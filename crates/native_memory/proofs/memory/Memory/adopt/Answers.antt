@@ -14,14 +14,14 @@ pub invariant_of-self : goal.invariant_of-self
 invariant_of-self c =
     let picks = rw (← c.self.view_is, c.len-len.ensures) at c.in-Some.ensures in
     rw (c.replace.ensures.new, c.into_vec.ensures, c.index_mut.ensures.value)
-    (set_kept _ (waits_at c.args.base (length c.args.body)) (with_contents (Some c.args.body)) c.in-Some.at c.index_mut.result.now c.self.inside.live c.self.inside.written
+    (set_kept _ (waits_at c.args.base (length c.args.body)) (with_contents (Some c.args.body)) c.in-Some.at c.index_mut.result.now c.self.inside.live
     c.self.invariant picks (contents_keep (Some c.args.body)) (adopts_whole c.args.base c.args.body))
 
 pub returns-in-Some-clause-done : goal.returns-in-Some-clause-done
 returns-in-Some-clause-done c =
     let picks = rw (c.len-len.ensures) at c.in-Some.ensures in
     rw (
-      adopted_found c.args.self.now c.args.base c.args.body c.in-Some.at c.index_mut.result.now picks,
+      adopted_found c.args.self.now.space c.args.base c.args.body c.in-Some.at c.index_mut.result.now picks,
       ← c.self.view_is,
       c.replace.ensures.new,
       c.into_vec.ensures,
@@ -30,4 +30,4 @@ returns-in-Some-clause-done c =
 
 pub returns-in-None-clause-refused : goal.returns-in-None-clause-refused
 returns-in-None-clause-refused c =
-    adopted_missing c.args.self.now c.args.base c.args.body (rw (c.len-len.ensures) at c.in-None.ensures)
+    adopted_missing c.args.self.now.space c.args.base c.args.body (rw (c.len-len.ensures) at c.in-None.ensures)

@@ -5,11 +5,11 @@ use Rattle.native_memory.proofs.RangesFound.{bytes_none, bytes_missing, bytes_fo
 use Rattle.native_memory.proofs.memory.Memory.bytes_at.Goals as goal
 
 pub returns-then-len-eq0-clause-value : goal.returns-then-len-eq0-clause-value
-returns-then-len-eq0-clause-value c = rw (bytes_none _ c.args.self.now c.args.addr c.args.len c.if-len-eq0.true) refl
+returns-then-len-eq0-clause-value c = rw (bytes_none _ c.args.self.now.space c.args.addr c.args.len c.if-len-eq0.true) refl
 
 pub returns-in_err-at-clause-value : goal.returns-in_err-at-clause-value
 returns-in_err-at-clause-value c =
-    rw (c.from_residual.ensures) (sym (bytes_missing _ c.args.self.now c.args.addr c.args.len c.if-len-eq0.false c.in_err-at.ensures))
+    rw (c.from_residual.ensures) (sym (bytes_missing _ c.args.self.now.space c.args.addr c.args.len c.if-len-eq0.false c.in_err-at.ensures))
 
 pub index-requires : goal.index-requires
 index-requires c =
@@ -26,5 +26,5 @@ part-requires-clause-whole c =
 
 pub returns-clause-value : goal.returns-clause-value
 returns-clause-value c =
-    let found = bytes_found (right_of c.args.access) c.args.self.now c.args.addr c.args.len c.in_ok-at.at c.index.result.now c.if-len-eq0.false c.in_ok-at.ensures in
+    let found = bytes_found (right_of c.args.access) c.args.self.now.space c.args.addr c.args.len c.in_ok-at.at c.index.result.now c.if-len-eq0.false c.in_ok-at.ensures in
     rw (found, ← c.self.view_is, ← c.index.ensures) c.part.ensures.value

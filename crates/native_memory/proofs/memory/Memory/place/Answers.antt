@@ -13,21 +13,21 @@ returns-then-size-self-clause-err c =
 
 pub returns-clause-ok : goal.returns-clause-ok
 returns-clause-ok c =
-    let is = placed_is c.args.self.now c.args.size c.args.rights c.args.kind c.in-Some.next
+    let is = placed_is c.args.self.now.space c.args.size c.args.rights c.args.kind c.in-Some.next
     (rw (← c.self.view_is) (sym c.next_after.ensures ∙ c.in-Some.is))
     (rw (← c.self.view_is, ← c.self.invariant.live) c.if-size-self.false) (rw (← c.self.view_is) c.self.invariant.sound.room) in
     rw (is, c.in_ok-push.ensures.ok, c.in_ok-contents.ensures, ← c.self.view_is) refl
 
 pub returns-in_err-contents-clause-err : goal.returns-in_err-contents-clause-err
 returns-in_err-contents-clause-err c =
-    let is = placed_is c.args.self.now c.args.size c.args.rights c.args.kind c.in-Some.next (rw (← c.self.view_is) (sym c.next_after.ensures ∙ c.in-Some.is))
+    let is = placed_is c.args.self.now.space c.args.size c.args.rights c.args.kind c.in-Some.next (rw (← c.self.view_is) (sym c.next_after.ensures ∙ c.in-Some.is))
     (rw (← c.self.view_is, ← c.self.invariant.live) c.if-size-self.false) (rw (← c.self.view_is) c.self.invariant.sound.room) in
     let p = err_from_is_err_and c.from_residual.result c.from_residual.ensures.1 in
     rw p.1 (refuses_memory p.0 _ _ p.2 is)
 
 pub returns-in_err-push-clause-err : goal.returns-in_err-push-clause-err
 returns-in_err-push-clause-err c =
-    let is = placed_is c.args.self.now c.args.size c.args.rights c.args.kind c.in-Some.next (rw (← c.self.view_is) (sym c.next_after.ensures ∙ c.in-Some.is))
+    let is = placed_is c.args.self.now.space c.args.size c.args.rights c.args.kind c.in-Some.next (rw (← c.self.view_is) (sym c.next_after.ensures ∙ c.in-Some.is))
     (rw (← c.self.view_is, ← c.self.invariant.live) c.if-size-self.false) (rw (← c.self.view_is) c.self.invariant.sound.room) in
     let p = err_from_is_err_and c.from_residual-in_err-push.result c.from_residual-in_err-push.ensures.1 in
     rw p.1 (refuses_memory p.0 _ _ (p.2 ∙ c.in_err-push.ensures.memory) is)

@@ -4,7 +4,7 @@ use Rattle.native_memory.proofs.RangesFound.{rest_missing, rest_found}
 use Rattle.native_memory.proofs.memory.Memory.rest.Goals as goal
 
 pub returns-in_err-at : goal.returns-in_err-at
-returns-in_err-at c = rw (c.from_residual.ensures) (sym (rest_missing c.args.self.now c.args.addr c.in_err-at.ensures))
+returns-in_err-at c = rw (c.from_residual.ensures) (sym (rest_missing c.args.self.now.space c.args.addr c.in_err-at.ensures))
 
 pub index-requires : goal.index-requires
 index-requires c =
@@ -21,5 +21,5 @@ rest-requires-clause-whole c =
 
 pub returns : goal.returns
 returns c =
-    let found = rest_found c.args.self.now c.args.addr c.in_ok-at.at c.index.result.now c.in_ok-at.ensures in
+    let found = rest_found c.args.self.now.space c.args.addr c.in_ok-at.at c.index.result.now c.in_ok-at.ensures in
     rw (found, ← c.self.view_is, ← c.index.ensures) c.rest.ensures

@@ -15,7 +15,7 @@ copied_none f None none = refl
 
 pub returns-in_err-at : goal.returns-in_err-at
 returns-in_err-at c =
-    rw c.from_residual.ensures (bytes_missing may_write c.args.self.now c.args.addr c.args.len (omega arith) c.in_err-at.ensures)
+    rw c.from_residual.ensures (bytes_missing may_write c.args.self.now.space c.args.addr c.args.len (omega arith) c.in_err-at.ensures)
 
 pub index-requires : goal.index-requires
 index-requires c =
@@ -32,10 +32,10 @@ part-requires-clause-whole c =
 
 pub returns-then-is_some : goal.returns-then-is_some
 returns-then-is_some c =
-    let found = bytes_found may_write c.args.self.now c.args.addr c.args.len c.in_ok-at.at c.index.result.now (omega arith) c.in_ok-at.ensures in
+    let found = bytes_found may_write c.args.self.now.space c.args.addr c.args.len c.in_ok-at.at c.index.result.now (omega arith) c.in_ok-at.ensures in
     (c.in_ok-at.ensures, rw (found, ← c.self.view_is, ← c.index.ensures, ← c.part.ensures.value) (copied_some _ _ (sym c.if-is_some.ensures)))
 
 pub returns-else-is_some : goal.returns-else-is_some
 returns-else-is_some c =
-    let found = bytes_found may_write c.args.self.now c.args.addr c.args.len c.in_ok-at.at c.index.result.now (omega arith) c.in_ok-at.ensures in
+    let found = bytes_found may_write c.args.self.now.space c.args.addr c.args.len c.in_ok-at.at c.index.result.now (omega arith) c.in_ok-at.ensures in
     rw (found, ← c.self.view_is, ← c.index.ensures, ← c.part.ensures.value) (copied_none _ _ (sym c.if-is_some.ensures))
