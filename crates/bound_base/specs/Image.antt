@@ -1,5 +1,5 @@
 -- The parts of an image by their places in the reading order, their names, and what a reader answers.
-use Rattle.std.specs.Prelude.{◌≡◌, ℕ, List, [], ◌∷◌, slice_index_or, codes, Result, Ok, Err, ⊤}
+use Rattle.std.specs.Prelude.{◌≡◌, ℕ, List, [], ◌∷◌, slice_index_or, codes, Option, Some, None, Result, Ok, Err, ⊤}
 use Rattle.bound_base.specs.declared.image.Part.{Part}
 use Rattle.bound_base.specs.declared.image.Part.TheVariants.{Mz, PeOffset, PeSignature, CoffHeader, OptionalHeader, Directories, Sections, CliHeader, CliFlags, MetadataRoot, Streams, Tables, Cell, Types, EntryPoint}
 use Rattle.bound_base.specs.declared.image.BadImage.{BadImage}
@@ -55,3 +55,8 @@ Refuses Memory read = ⊤
 abbrev pub Reads : {X Y : Type 0} → (X → Y) → Result X BadImage → Result Y (ℕ × ℕ) → Type 0
 Reads view (Ok x) read = read ≡ Ok (view x)
 Reads view (Err e) read = Refuses e read
+
+-- what an error says of an image: the place of the part that is broken, and the file offset; None for want of memory
+abbrev pub refusal : BadImage → Option (ℕ × ℕ)
+refusal (Bad part at) = Some (part_place part, at)
+refusal Memory = None

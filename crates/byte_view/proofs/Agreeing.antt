@@ -136,8 +136,8 @@ layout_same start a b same =
     rw (same.size, valid, heap_sizes)
     (let valid : ℕ = le b (start + 8) 8 in
     let heap_sizes : ℕ = le b (start + 6) 1 in
-    let header : Result ℕ Broken = must (nat_le (start + 24) (length b)) parts.tables start in
-    let bits : Result ℕ Broken = each (λ table. must (is_table table || not (is_present valid table)) parts.tables (start + 8)) 64 in
+    let header : Result ℕ Broken = must (nat_le (start + 24) (length b)) (parts.tables, start) in
+    let bits : Result ℕ Broken = each (λ table. must (is_table table || not (is_present valid table)) (parts.tables, start + 8)) 64 in
     bind_same header header _ _ refl (λ passed _.
     bind_same bits bits _ _ refl (λ known _.
     bind_same (listed (row_count a start valid) table_numbers) (listed (row_count b start valid) table_numbers) _ _ (listed_same (row_count a start valid) (row_count b start valid) table_numbers (λ k _. counts valid k)) (λ rows _.

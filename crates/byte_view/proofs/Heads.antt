@@ -70,7 +70,7 @@ signature_same end a b same h l =
 table_read : (bytes : List ℕ) (p : ℕ) (x : ℕ × ℕ) → section_table bytes p ≡ Ok x → (le bytes (p + 6) 2 ≡ x.0) × (p + 24 + le bytes (p + 20) 2 ≡ x.1)
 unfolding section_table
 table_read bytes p x e =
-    bind_then (must (nat_le (p + 24) (length bytes)) parts.coff_header (p + 4)) _ x e (λ passed _ e1.
+    bind_then (must (nat_le (p + 24) (length bytes)) (parts.coff_header, p + 4)) _ x e (λ passed _ e1.
     (ap (λ (x : ℕ × ℕ). x.0) (same_read _ x e1), ap (λ (x : ℕ × ℕ). x.1) (same_read _ x e1)))
 
 table_same : (end p : ℕ) (a b : List ℕ) → AgreeIn 0 end a b → p + 24 ≤ end → section_table a p ≡ section_table b p
@@ -96,7 +96,7 @@ directory_read : (bytes : List ℕ) (count_at x : ℕ) → cli_directory bytes c
 unfolding cli_directory
 directory_read bytes count_at x e =
     bind_then (field_where (λ count. nat_le 15 count) parts.directories bytes count_at 4) _ x e (λ count _ e1.
-    bind_then (must (nat_le (count_at + 116 + 8) (length bytes) && not (le bytes (count_at + 116) 4 == 0)) parts.directories (count_at + 116)) _ x e1 (λ passed _ e2.
+    bind_then (must (nat_le (count_at + 116 + 8) (length bytes) && not (le bytes (count_at + 116) 4 == 0)) (parts.directories, count_at + 116)) _ x e1 (λ passed _ e2.
     same_read _ x e2))
 
 directory_same : (end count_at : ℕ) (a b : List ℕ) → AgreeIn 0 end a b → count_at + 124 ≤ end → cli_directory a count_at ≡ cli_directory b count_at
@@ -115,7 +115,7 @@ section_same end at a b same h =
 sections_same : (end p count at : ℕ) (a b : List ℕ) → AgreeIn 0 end a b → at + 40 * count ≤ end → sections_of a p count at ≡ sections_of b p count at
 unfolding sections_of
 sections_same end p count at a b same h =
-    let few : Result ℕ Broken = must (nat_le count 96) parts.sections (p + 6) in
+    let few : Result ℕ Broken = must (nat_le count 96) (parts.sections, p + 6) in
     bind_same few few _ _ refl (λ passed _.
     listed_same (λ k. section_at a (at + 40 * k)) (λ k. section_at b (at + 40 * k)) count (λ k l. section_same end (at + 40 * k) a b same (omega arith)))
 
@@ -127,7 +127,7 @@ cli_header_read : (bytes : List ℕ) (sections : List Section) (directory x : �
 unfolding cli_header_place
 cli_header_read bytes sections directory x e =
     bind_then (header_found bytes sections directory) _ x e (λ at at_read e1.
-    bind_then (must (bit_and (le bytes (at + 16) 4) 0x11 == 0x01) parts.cli_flags (at + 16)) _ x e1 (λ passed _ e2.
+    bind_then (must (bit_and (le bytes (at + 16) 4) 0x11 == 0x01) (parts.cli_flags, at + 16)) _ x e1 (λ passed _ e2.
     at_read ∙ e2))
 
 cli_header_same : (end directory at : ℕ) (a b : List ℕ) (sections : List Section) → AgreeIn 0 end a b → directory + 8 ≤ end → cli_header_place a sections directory ≡ Ok at → AgreeIn at (at + 72) a b → cli_header_place a sections directory ≡ cli_header_place b sections directory

@@ -1,4 +1,5 @@
 pub mod Reading
+pub mod Refusals
 pub mod Worked
 pub mod Tables
 pub mod Sound

@@ -29,12 +29,12 @@ load_read bytes end at load e =
     let vaddr : ℕ = le bytes (at + 16) 8 in
     let file_size : ℕ = le bytes (at + 32) 8 in
     let size : ℕ = le bytes (at + 40) 8 in
-    bind_then (must (nat_le (file_at + file_size) (length bytes)) parts.load (at + 8)) _ load e (λ a a_passed e1.
-    bind_then (must (nat_le file_size size) parts.load (at + 32)) _ load e1 (λ b b_passed e2.
-    bind_then (must (nat_le end vaddr && nat_lt (vaddr + size) (2 ^ 32)) parts.load (at + 16)) _ load e2 (λ c c_passed e3.
-    let places = and_parts (nat_le end vaddr) (nat_lt (vaddr + size) (2 ^ 32)) (must_ok _ parts.load (at + 16) c c_passed) in
-    let in_file : file_at + file_size ≤ length bytes = leb-true _ _ (must_ok _ parts.load (at + 8) a a_passed) in
-    let sizes : file_size ≤ size = leb-true _ _ (must_ok _ parts.load (at + 32) b b_passed) in
+    bind_then (must (nat_le (file_at + file_size) (length bytes)) (parts.load, at + 8)) _ load e (λ a a_passed e1.
+    bind_then (must (nat_le file_size size) (parts.load, at + 32)) _ load e1 (λ b b_passed e2.
+    bind_then (must (nat_le end vaddr && nat_lt (vaddr + size) (2 ^ 32)) (parts.load, at + 16)) _ load e2 (λ c c_passed e3.
+    let places = and_parts (nat_le end vaddr) (nat_lt (vaddr + size) (2 ^ 32)) (must_ok _ (parts.load, at + 16) c c_passed) in
+    let in_file : file_at + file_size ≤ length bytes = leb-true _ _ (must_ok _ (parts.load, at + 8) a a_passed) in
+    let sizes : file_size ≤ size = leb-true _ _ (must_ok _ (parts.load, at + 32) b b_passed) in
     let low : vaddr + size < 2 ^ 32 = ltb-true _ _ places.1 in
     let behind : end ≤ vaddr = leb-true _ _ places.0 in
     subst (λ (load : Load). IsWhole bytes load × (end ≤ load.vaddr)) (same_read _ load e3)
@@ -171,9 +171,9 @@ load_of bytes at = record {
 load_is : (bytes : List ℕ) (end at : ℕ) (load : Load) → load_at bytes end at ≡ Ok load → load_of bytes at ≡ load
 unfolding load_at
 load_is bytes end at load e =
-    bind_then (must (nat_le (le bytes (at + 8) 8 + le bytes (at + 32) 8) (length bytes)) parts.load (at + 8)) _ load e (λ a _ e1.
-    bind_then (must (nat_le (le bytes (at + 32) 8) (le bytes (at + 40) 8)) parts.load (at + 32)) _ load e1 (λ b _ e2.
-    bind_then (must (nat_le end (le bytes (at + 16) 8) && nat_lt (le bytes (at + 16) 8 + le bytes (at + 40) 8) (2 ^ 32)) parts.load (at + 16)) _ load e2 (λ c _ e3.
+    bind_then (must (nat_le (le bytes (at + 8) 8 + le bytes (at + 32) 8) (length bytes)) (parts.load, at + 8)) _ load e (λ a _ e1.
+    bind_then (must (nat_le (le bytes (at + 32) 8) (le bytes (at + 40) 8)) (parts.load, at + 32)) _ load e1 (λ b _ e2.
+    bind_then (must (nat_le end (le bytes (at + 16) 8) && nat_lt (le bytes (at + 16) 8 + le bytes (at + 40) 8) (2 ^ 32)) (parts.load, at + 16)) _ load e2 (λ c _ e3.
     same_read _ load e3)))
 
 -- a header that the cut file has whole holds the same load there
@@ -236,12 +236,12 @@ unfolding program_headers
 headers_at bytes start count e =
     bind_then (field_where (λ size. size == 56) parts.program_headers bytes 54 2) _ (start, count) e (λ size size_read e1.
     bind_then (field parts.program_headers bytes 56 2) _ (start, count) e1 (λ n n_read e2.
-    bind_then (must (n == 0 || nat_le (le bytes 32 8 + 56 * n) (length bytes)) parts.program_headers 32) _ (start, count) e2 (λ passed must_read e3.
+    bind_then (must (n == 0 || nat_le (le bytes 32 8 + 56 * n) (length bytes)) (parts.program_headers, 32)) _ (start, count) e2 (λ passed must_read e3.
     let there = field_ok parts.program_headers bytes 56 2 n n_read in
     let pair = same_read _ (start, count) e3 in
     let first : le bytes 32 8 ≡ start = ap (λ (x : ℕ × ℕ). x.0) pair in
     let second : n ≡ count = ap (λ (x : ℕ × ℕ). x.1) pair in
-    let inside = within_file (le bytes 32 8) n (length bytes) (must_ok _ parts.program_headers 32 passed must_read) in
+    let inside = within_file (le bytes 32 8) n (length bytes) (must_ok _ (parts.program_headers, 32) passed must_read) in
     record {
       fields = there.0;
       start_is = first;

@@ -65,7 +65,7 @@ loads_same start count (suc n) a b same h =
 
 tls_same : (start count : ℕ) (a b : List ℕ) → AgreeIn start (start + 56 * count) a b → without_tls a start count ≡ without_tls b start count
 tls_same start count a b same =
-    each_same _ _ count (λ n h. ap (λ found. must (not found) parts.tls (start + 56 * n)) (type_same pt_tls start (start + 56 * count) (start + 56 * n) a b same (omega arith) (omega arith)))
+    each_same _ _ count (λ n h. ap (λ found. must (not found) (parts.tls, start + 56 * n)) (type_same pt_tls start (start + 56 * count) (start + 56 * n) a b same (omega arith) (omega arith)))
 
 -- ---- the dynamic section
 

@@ -1,5 +1,5 @@
 -- What is known of the steps of a reading, one after another, by how it ended.
-use Rattle.std.proofs.Common.{◌≡◌, ℕ, zero, suc, ◌+◌, ◌<◌, ◌≤◌, Bool, true, false, ◌⊎◌, List, [], ◌∷◌, ◌++◌, length, get_or, map, Option, Some, None, Result, Ok, Err, refl, sym, ap, ◌∙◌, inl, inr, arith}
+use Rattle.std.proofs.Common.{◌≡◌, ℕ, zero, suc, ◌+◌, ◌<◌, ◌≤◌, Bool, true, false, ◌⊎◌, List, [], ◌∷◌, ◌++◌, length, get_or, map, Option, Some, None, Result, Ok, Err, refl, sym, ap, ◌∙◌, inl, inr, add-one, arith}
 use Rattle.std.specs.Prelude.{nat_le, if◌then◌else◌}
 use Rattle.std.specs.List.{range_with_len}
 use Rattle.std.specs.Option.{ok_or}
@@ -7,52 +7,58 @@ use Rattle.std.proofs.lemmas.Bool.{cases_lt, leb-true}
 use Rattle.std.proofs.lemmas.List.{get_or_append_left, get_or_push, length_push}
 use Rattle.std.proofs.lemmas.List.FromFn.{map-range_with_len_more}
 use Rattle.byte_view.specs.Numbers.{le}
-use Rattle.byte_view.specs.Reading.{Broken, ◌>>=◌, must, field, field_where, listed, each}
+use Rattle.byte_view.specs.Reading.{◌>>=◌, must, field, field_where, listed, each}
 
 -- a reading that succeeds read its first part
-pub bind_ok : {A B : Type 0} (r : Result A Broken) (f : A → Result B Broken) (y : B) → (r >>= f) ≡ Ok y → (x : A) × (r ≡ Ok x) × (f x ≡ Ok y)
+pub bind_ok : {A B R : Type 0} (r : Result A R) (f : A → Result B R) (y : B) → (r >>= f) ≡ Ok y → (x : A) × (r ≡ Ok x) × (f x ≡ Ok y)
 bind_ok (Ok x) f y e = (x, refl, e)
 bind_ok (Err d) f y e = absurd (cc)
 
 -- what follows from the first part and the rest of a reading that succeeds
-pub bind_then : {A B P : Type 0} (r : Result A Broken) (f : A → Result B Broken) (y : B) → (r >>= f) ≡ Ok y → ((x : A) → r ≡ Ok x → f x ≡ Ok y → P) → P
+pub bind_then : {A B P R : Type 0} (r : Result A R) (f : A → Result B R) (y : B) → (r >>= f) ≡ Ok y → ((x : A) → r ≡ Ok x → f x ≡ Ok y → P) → P
 bind_then (Ok x) f y e next = next x refl e
 bind_then (Err d) f y e next = absurd (cc)
 
 -- readings of equal parts that go on alike are equal
-pub bind_same : {A B : Type 0} (r s : Result A Broken) (f g : A → Result B Broken) → r ≡ s → ((x : A) → r ≡ Ok x → f x ≡ g x) → (r >>= f) ≡ (s >>= g)
+pub bind_same : {A B R : Type 0} (r s : Result A R) (f g : A → Result B R) → r ≡ s → ((x : A) → r ≡ Ok x → f x ≡ g x) → (r >>= f) ≡ (s >>= g)
 bind_same (Ok x) s f g e rest = rw (← e) (rest x refl)
 bind_same (Err d) s f g e rest = rw (← e) refl
 
 -- one value was read
-pub same_read : {A : Type 0} (x y : A) → ◌≡◌ {A = Result A Broken} (Ok x) (Ok y) → x ≡ y
+pub same_read : {A R : Type 0} (x y : A) → ◌≡◌ {A = Result A R} (Ok x) (Ok y) → x ≡ y
 same_read x y e = cc
 
 -- a part that is broken breaks the reading
-pub bind_err : {A B : Type 0} (r : Result A Broken) (f : A → Result B Broken) (d : Broken) → r ≡ Err d → (r >>= f) ≡ Err d
+pub bind_err : {A B R : Type 0} (r : Result A R) (f : A → Result B R) (d : R) → r ≡ Err d → (r >>= f) ≡ Err d
 bind_err r f d e = rw e refl
 
 -- the part that is read goes on
-pub bind_read : {A B : Type 0} (r : Result A Broken) (f : A → Result B Broken) (x : A) → r ≡ Ok x → (r >>= f) ≡ f x
+pub bind_read : {A B R : Type 0} (r : Result A R) (f : A → Result B R) (x : A) → r ≡ Ok x → (r >>= f) ≡ f x
 bind_read r f x e = rw e refl
 
 -- a reading that fails fails in its first part, or goes on from it and fails then
-pub bind_cases : {A B : Type 0} (r : Result A Broken) (f : A → Result B Broken) (d : Broken) → (r >>= f) ≡ Err d → (r ≡ Err d) ⊎ ((x : A) × (r ≡ Ok x) × (f x ≡ Err d))
+pub bind_cases : {A B R : Type 0} (r : Result A R) (f : A → Result B R) (d : R) → (r >>= f) ≡ Err d → (r ≡ Err d) ⊎ ((x : A) × (r ≡ Ok x) × (f x ≡ Err d))
 bind_cases (Ok x) f d e = inr (x, refl, e)
 bind_cases (Err c) f d e = inl (cc)
 
 -- a reading ends in one of two ways
-pub read_or_refused : {A : Type 0} (r : Result A Broken) → ((x : A) × (r ≡ Ok x)) ⊎ ((d : Broken) × (r ≡ Err d))
+pub read_or_refused : {A R : Type 0} (r : Result A R) → ((x : A) × (r ≡ Ok x)) ⊎ ((d : R) × (r ≡ Err d))
 read_or_refused (Ok x) = inl (x, refl)
 read_or_refused (Err d) = inr (d, refl)
 
 -- a test that passed
-pub must_ok : (holds : Bool) (part at y : ℕ) → must holds part at ≡ Ok y → holds ≡ true
-must_ok true part at y e = refl
-must_ok false part at y e = absurd (cc)
+pub must_ok : {R : Type 0} (holds : Bool) (refusal : R) (y : ℕ) → must holds refusal ≡ Ok y → holds ≡ true
+must_ok true refusal y e = refl
+must_ok false refusal y e = absurd (cc)
+
+pub must_pass : {R : Type 0} (holds : Bool) (refusal : R) → holds ≡ true → must holds refusal ≡ Ok 0
+must_pass holds refusal e = rw e refl
+
+pub must_fail : {R : Type 0} (holds : Bool) (refusal : R) → holds ≡ false → must holds refusal ≡ Err refusal
+must_fail holds refusal e = rw e refl
 
 -- a value that was given since a test passed
-pub chosen_ok : {A : Type 0} (passes : Bool) (x y : A) (d : Broken) → (if passes then Ok x else Err d) ≡ Ok y → (passes ≡ true) × (x ≡ y)
+pub chosen_ok : {A R : Type 0} (passes : Bool) (x y : A) (d : R) → (if passes then Ok x else Err d) ≡ Ok y → (passes ≡ true) × (x ≡ y)
 chosen_ok true x y d e = (refl, cc)
 chosen_ok false x y d e = absurd (cc)
 
@@ -73,12 +79,12 @@ field_where_ok passes part bytes at n y e =
     (there.0, value, test)
 
 -- an option that had a value
-pub ok_or_ok : {A : Type 0} (o : Option A) (d : Broken) (x : A) → ok_or o d ≡ Ok x → o ≡ Some x
+pub ok_or_ok : {A R : Type 0} (o : Option A) (d : R) (x : A) → ok_or o d ≡ Ok x → o ≡ Some x
 ok_or_ok (Some y) d x e = cc
 ok_or_ok None d x e = absurd (cc)
 
 -- tests that all passed: each of them did
-pub each_ok : (step : ℕ → Result ℕ Broken) (n y : ℕ) → each step n ≡ Ok y → (k : ℕ) → k < n → (z : ℕ) × (step k ≡ Ok z)
+pub each_ok : {R : Type 0} (step : ℕ → Result ℕ R) (n y : ℕ) → each step n ≡ Ok y → (k : ℕ) → k < n → (z : ℕ) × (step k ≡ Ok z)
 unfolding each
 each_ok step zero y e k h = absurd (omega arith)
 each_ok step (suc n) y e k h =
@@ -88,13 +94,21 @@ each_ok step (suc n) y e k h =
       | inr g ↦ (y, let same : k ≡ n = omega arith in rw same parts.2)
     ]
 
+pub each_none : {R : Type 0} (step : ℕ → Result ℕ R) → each step 0 ≡ Ok 0
+unfolding each
+each_none step = refl
+
 -- the test after those that passed
-pub each_next : (step : ℕ → Result ℕ Broken) (n y : ℕ) → each step n ≡ Ok y → each step (suc n) ≡ step n
+pub each_next : {R : Type 0} (step : ℕ → Result ℕ R) (n y : ℕ) → each step n ≡ Ok y → each step (suc n) ≡ step n
 unfolding each
 each_next step n y e = rw e refl
 
+-- one more test that passes
+pub each_more : {R : Type 0} (step : ℕ → Result ℕ R) (n x y : ℕ) → each step n ≡ Ok y → step n ≡ Ok x → each step (n + 1) ≡ Ok x
+each_more step n x y before e = rw add-one (each_next step n y before ∙ e)
+
 -- a test that fails leaves all later ones undone
-pub each_failed : (step : ℕ → Result ℕ Broken) (n m : ℕ) (d : Broken) → each step n ≡ Err d → n ≤ m → each step m ≡ Err d
+pub each_failed : {R : Type 0} (step : ℕ → Result ℕ R) (n m : ℕ) (d : R) → each step n ≡ Err d → n ≤ m → each step m ≡ Err d
 unfolding each
 each_failed step n zero d e h = let same : n ≡ zero = omega arith in rw same at e
 each_failed step n (suc m) d e h =
@@ -104,11 +118,11 @@ each_failed step n (suc m) d e h =
     ]
 
 -- the first test that fails
-pub each_fails : (step : ℕ → Result ℕ Broken) (k m y : ℕ) (d : Broken) → each step k ≡ Ok y → step k ≡ Err d → k < m → each step m ≡ Err d
+pub each_fails : {R : Type 0} (step : ℕ → Result ℕ R) (k m y : ℕ) (d : R) → each step k ≡ Ok y → step k ≡ Err d → k < m → each step m ≡ Err d
 each_fails step k m y d before failed h = each_failed step (suc k) m d (each_next step k y before ∙ failed) h
 
 -- tests that pass each by itself pass one after another
-pub each_from : (step : ℕ → Result ℕ Broken) (n : ℕ) → ((k : ℕ) → k < n → (z : ℕ) × (step k ≡ Ok z)) → (y : ℕ) × (each step n ≡ Ok y)
+pub each_from : {R : Type 0} (step : ℕ → Result ℕ R) (n : ℕ) → ((k : ℕ) → k < n → (z : ℕ) × (step k ≡ Ok z)) → (y : ℕ) × (each step n ≡ Ok y)
 unfolding each
 each_from step zero h = (0, refl)
 each_from step (suc n) h =
@@ -117,7 +131,7 @@ each_from step (suc n) h =
     (last.0, bind_read (each step n) (λ _. step n) before.0 before.1 ∙ last.1)
 
 -- equal tests have equal answers
-pub each_same : (f g : ℕ → Result ℕ Broken) (n : ℕ) → ((k : ℕ) → k < n → f k ≡ g k) → each f n ≡ each g n
+pub each_same : {R : Type 0} (f g : ℕ → Result ℕ R) (n : ℕ) → ((k : ℕ) → k < n → f k ≡ g k) → each f n ≡ each g n
 unfolding each
 each_same f g zero h = refl
 each_same f g (suc n) h =
@@ -126,7 +140,7 @@ each_same f g (suc n) h =
     rw (before, last) refl
 
 -- a list that was read has a value for each step
-pub listed_length : {A : Type 0} (step : ℕ → Result A Broken) (n : ℕ) (xs : List A) → listed step n ≡ Ok xs → length xs ≡ n
+pub listed_length : {A R : Type 0} (step : ℕ → Result A R) (n : ℕ) (xs : List A) → listed step n ≡ Ok xs → length xs ≡ n
 unfolding listed
 listed_length step zero xs e = let same : xs ≡ [] = cc in rw same refl
 listed_length {A} step (suc n) xs e =
@@ -137,7 +151,7 @@ listed_length {A} step (suc n) xs e =
     rw (← same) (omega (arith, length_push parts.0 rest.0, before))
 
 -- each step of a list that was read gave its value
-pub listed_at : {A : Type 0} (step : ℕ → Result A Broken) (n : ℕ) (xs : List A) → listed step n ≡ Ok xs → (k : ℕ) (d : A) → k < n → step k ≡ Ok (get_or xs k d)
+pub listed_at : {A R : Type 0} (step : ℕ → Result A R) (n : ℕ) (xs : List A) → listed step n ≡ Ok xs → (k : ℕ) (d : A) → k < n → step k ≡ Ok (get_or xs k d)
 unfolding listed
 listed_at step zero xs e k d h = absurd (omega arith)
 listed_at {A} step (suc n) xs e k d h =
@@ -155,7 +169,7 @@ listed_at {A} step (suc n) xs e k d h =
     ]
 
 -- a value that can't be read leaves all later ones unread
-pub listed_failed : {A : Type 0} (step : ℕ → Result A Broken) (n m : ℕ) (d : Broken) → listed step n ≡ Err d → n ≤ m → listed step m ≡ Err d
+pub listed_failed : {A R : Type 0} (step : ℕ → Result A R) (n m : ℕ) (d : R) → listed step n ≡ Err d → n ≤ m → listed step m ≡ Err d
 unfolding listed
 listed_failed step n zero d e h = let same : n ≡ zero = omega arith in rw same at e
 listed_failed step n (suc m) d e h =
@@ -164,18 +178,26 @@ listed_failed step n (suc m) d e h =
       | inr g ↦ bind_err (listed step m) (λ before. step m >>= λ last. Ok (before ++ last ∷ [])) d (listed_failed step n m d e g)
     ]
 
+pub listed_none : {A R : Type 0} (step : ℕ → Result A R) → listed step 0 ≡ Ok []
+unfolding listed
+listed_none step = refl
+
 -- the list with the value of the next step
-pub listed_next : {A : Type 0} (step : ℕ → Result A Broken) (n : ℕ) (xs : List A) → listed step n ≡ Ok xs → listed step (suc n) ≡ (step n >>= λ last. Ok (xs ++ last ∷ []))
+pub listed_next : {A R : Type 0} (step : ℕ → Result A R) (n : ℕ) (xs : List A) → listed step n ≡ Ok xs → listed step (suc n) ≡ (step n >>= λ last. Ok (xs ++ last ∷ []))
 unfolding listed
 listed_next step n xs e = rw e refl
 
+-- one more value
+pub listed_more : {A R : Type 0} (step : ℕ → Result A R) (n : ℕ) (xs : List A) (x : A) → listed step n ≡ Ok xs → step n ≡ Ok x → listed step (n + 1) ≡ Ok (xs ++ x ∷ [])
+listed_more step n xs x before e = rw (add-one, listed_next step n xs before, e) refl
+
 -- the first value that can't be read
-pub listed_fails : {A : Type 0} (step : ℕ → Result A Broken) (k m : ℕ) (xs : List A) (d : Broken) → listed step k ≡ Ok xs → step k ≡ Err d → k < m → listed step m ≡ Err d
+pub listed_fails : {A R : Type 0} (step : ℕ → Result A R) (k m : ℕ) (xs : List A) (d : R) → listed step k ≡ Ok xs → step k ≡ Err d → k < m → listed step m ≡ Err d
 listed_fails step k m xs d before failed h =
     listed_failed step (suc k) m d (listed_next step k xs before ∙ bind_err (step k) (λ last. Ok (xs ++ last ∷ [])) d failed) h
 
 -- values that can be read each by itself are read one after another
-pub listed_from : {A : Type 0} (step : ℕ → Result A Broken) (f : ℕ → A) (n : ℕ) → ((k : ℕ) → k < n → step k ≡ Ok (f k)) → listed step n ≡ Ok (map f (range_with_len 0 n))
+pub listed_from : {A R : Type 0} (step : ℕ → Result A R) (f : ℕ → A) (n : ℕ) → ((k : ℕ) → k < n → step k ≡ Ok (f k)) → listed step n ≡ Ok (map f (range_with_len 0 n))
 unfolding listed
 listed_from step f zero h = refl
 listed_from step f (suc n) h =
@@ -186,7 +208,7 @@ listed_from step f (suc n) h =
     rw (before, last) (ap Ok (sym longer ∙ ap (λ m. map f (range_with_len 0 m)) (sym more)))
 
 -- equal steps read equal lists
-pub listed_same : {A : Type 0} (f g : ℕ → Result A Broken) (n : ℕ) → ((k : ℕ) → k < n → f k ≡ g k) → listed f n ≡ listed g n
+pub listed_same : {A R : Type 0} (f g : ℕ → Result A R) (n : ℕ) → ((k : ℕ) → k < n → f k ≡ g k) → listed f n ≡ listed g n
 unfolding listed
 listed_same f g zero h = refl
 listed_same f g (suc n) h =

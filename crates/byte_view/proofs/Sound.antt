@@ -61,8 +61,8 @@ pub cell_passes : (l : Layout) (m : Metadata) (table row column answer : ℕ) �
 unfolding check_row check_table
 cell_passes l m table row column answer e within_rows within_columns =
     let rows = each_ok (check_row l m table) (rows_in m table) answer e row within_rows in
-    let cells = each_ok (λ column. must (is_sound_in m (slice_get (columns table) column) (value_before m table row column) (value_in m table row column)) parts.cell (cell_place l table row column)) (length (columns table)) rows.0 rows.1 column within_columns in
-    must_ok _ parts.cell (cell_place l table row column) cells.0 cells.1
+    let cells = each_ok (λ column. must (is_sound_in m (slice_get (columns table) column) (value_before m table row column) (value_in m table row column)) (parts.cell, cell_place l table row column)) (length (columns table)) rows.0 rows.1 column within_columns in
+    must_ok _ (parts.cell, cell_place l table row column) cells.0 cells.1
 
 -- a table that was tested
 pub table_passes : (l : Layout) (m : Metadata) (answer table : ℕ) → check_cells l m ≡ Ok answer → Contains checked_tables table → (z : ℕ) × (check_table l m table ≡ Ok z)

@@ -28,14 +28,14 @@ unfolding layout
 laid_out image start l e =
     let heap_sizes : ℕ = le image (start + 6) 1 in
     let valid : ℕ = le image (start + 8) 8 in
-    bind_then (must (nat_le (start + 24) (length image)) parts.tables start) _ l e (λ passed header e1.
-    bind_then (each (λ table. must (is_table table || not (is_present valid table)) parts.tables (start + 8)) 64) _ l e1 (λ known bits e2.
+    bind_then (must (nat_le (start + 24) (length image)) (parts.tables, start)) _ l e (λ passed header e1.
+    bind_then (each (λ table. must (is_table table || not (is_present valid table)) (parts.tables, start + 8)) 64) _ l e1 (λ known bits e2.
     bind_then (listed (row_count image start valid) table_numbers) _ l e2 (λ rows rows_read e3.
     bind_then (listed (start_of image start valid heap_sizes rows) table_numbers) _ l e3 (λ starts starts_read e4.
     subst (λ (l : Layout). LaidOut image start l)
     (same_read (record { heap_sizes = heap_sizes; rows = rows; starts = starts }) l e4)
     (record {
-      header = leb-true (start + 24) (length image) (must_ok _ parts.tables start passed header);
+      header = leb-true (start + 24) (length image) (must_ok _ (parts.tables, start) passed header);
       heap_sizes = refl;
       rows = rows_read;
       starts = starts_read;

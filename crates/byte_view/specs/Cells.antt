@@ -49,7 +49,7 @@ is_sound_in m (Some column) before value = is_sound m column before value
 -- the cells of a row, column after column
 unfoldable pub check_row : Layout → Metadata → ℕ → ℕ → Result ℕ Broken
 check_row l m table row =
-    each (λ column. must (is_sound_in m (slice_get (columns table) column) (value_before m table row column) (value_in m table row column)) parts.cell (cell_place l table row column)) (length (columns table))
+    each (λ column. must (is_sound_in m (slice_get (columns table) column) (value_before m table row column) (value_in m table row column)) (parts.cell, cell_place l table row column)) (length (columns table))
 
 -- the rows of a table
 unfoldable pub check_table : Layout → Metadata → ℕ → Result ℕ Broken

@@ -91,8 +91,8 @@ is_end entry = entry.tag == dt_null
 -- there are no text relocations and no relocations without addends, and entries of symbols and relocations have 24 bytes
 unfoldable pub check_entry : Entry → Result ℕ Broken
 check_entry entry = do
-  _ ← must (not (entry.tag == dt_textrel || entry.tag == dt_rel)) parts.dynamic entry.at
-  must (not (entry.tag == dt_syment || entry.tag == dt_relaent) || entry.value == 24) parts.dynamic (entry.at + 8)
+  _ ← must (not (entry.tag == dt_textrel || entry.tag == dt_rel)) (parts.dynamic, entry.at)
+  must (not (entry.tag == dt_syment || entry.tag == dt_relaent) || entry.value == 24) (parts.dynamic, entry.at + 8)
 
 -- a test of each entry, in order
 unfoldable pub check_entries : List Entry → Result ℕ Broken
@@ -105,7 +105,7 @@ dynamic_table bytes header = do
   let all : List Entry = entries bytes header
   let table : List Entry = before_first is_end all
   _ ← check_entries table
-  _ ← must (nat_lt (length table) (length all)) parts.dynamic (header + 8)
+  _ ← must (nat_lt (length table) (length all)) (parts.dynamic, header + 8)
   Ok table
 
 -- the entry of a tag; where it stands twice the first counts

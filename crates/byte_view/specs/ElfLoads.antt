@@ -32,7 +32,7 @@ program_headers bytes = do
   _ ← field_where (λ size. size == 56) parts.program_headers bytes 54 2
   count ← field parts.program_headers bytes 56 2
   let start : ℕ = le bytes 32 8
-  _ ← must (count == 0 || nat_le (start + 56 * count) (length bytes)) parts.program_headers 32
+  _ ← must (count == 0 || nat_le (start + 56 * count) (length bytes)) (parts.program_headers, 32)
   Ok (start, count)
 
 -- the program header has a type
@@ -60,9 +60,9 @@ load_at bytes end at = do
   let vaddr : ℕ = le bytes (at + 16) 8
   let file_size : ℕ = le bytes (at + 32) 8
   let size : ℕ = le bytes (at + 40) 8
-  _ ← must (nat_le (file_at + file_size) (length bytes)) parts.load (at + 8)
-  _ ← must (nat_le file_size size) parts.load (at + 32)
-  _ ← must (nat_le end vaddr && nat_lt (vaddr + size) (2 ^ 32)) parts.load (at + 16)
+  _ ← must (nat_le (file_at + file_size) (length bytes)) (parts.load, at + 8)
+  _ ← must (nat_le file_size size) (parts.load, at + 32)
+  _ ← must (nat_le end vaddr && nat_lt (vaddr + size) (2 ^ 32)) (parts.load, at + 16)
   Ok (record {
     at = at;
     file_at = file_at;
@@ -98,7 +98,7 @@ loads bytes start (suc n) = loads bytes start n >>= λ before. and_load bytes be
 
 -- no header is of thread-local storage
 abbrev pub without_tls : List ℕ → ℕ → ℕ → Result ℕ Broken
-without_tls bytes start count = each (λ n. must (not (is_of_type pt_tls bytes (start + 56 * n))) parts.tls (start + 56 * n)) count
+without_tls bytes start count = each (λ n. must (not (is_of_type pt_tls bytes (start + 56 * n))) (parts.tls, start + 56 * n)) count
 
 -- the file has the bytes of a range of addresses, in this load
 unfoldable pub holds_range : ℕ → ℕ → Load → Bool

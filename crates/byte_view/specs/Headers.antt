@@ -30,7 +30,7 @@ signature_place bytes = do
 -- the number of sections, and where their headers begin, behind the optional header (II.25.2.2)
 unfoldable pub section_table : List ℕ → ℕ → Result (ℕ × ℕ) Broken
 section_table bytes p = do
-  _ ← must (nat_le (p + 24) (length bytes)) parts.coff_header (p + 4)
+  _ ← must (nat_le (p + 24) (length bytes)) (parts.coff_header, p + 4)
   Ok (le bytes (p + 6) 2, p + 24 + le bytes (p + 20) 2)
 
 -- where the optional header has the number of its data directories: at 92 in a PE32 file, at 108 in a PE32+
@@ -45,7 +45,7 @@ unfoldable pub cli_directory : List ℕ → ℕ → Result ℕ Broken
 cli_directory bytes count_at = do
   _ ← field_where (λ count. nat_le 15 count) parts.directories bytes count_at 4
   let at : ℕ = count_at + 116
-  _ ← must (nat_le (at + 8) (length bytes) && not (le bytes at 4 == 0)) parts.directories at
+  _ ← must (nat_le (at + 8) (length bytes) && not (le bytes at 4 == 0)) (parts.directories, at)
   Ok at
 
 -- one section header of 40 bytes
@@ -58,7 +58,7 @@ section_at bytes at =
 -- the sections: at most 96, one header after another
 unfoldable pub sections_of : List ℕ → ℕ → ℕ → ℕ → Result (List Section) Broken
 sections_of bytes p count at = do
-  _ ← must (nat_le count 96) parts.sections (p + 6)
+  _ ← must (nat_le count 96) (parts.sections, p + 6)
   listed (λ k. section_at bytes (at + 40 * k)) count
 
 -- a section whose raw data, in a file of this size, holds the range of addresses
@@ -87,7 +87,7 @@ bytes_from bytes sections rva =
 unfoldable pub cli_header_place : List ℕ → List Section → ℕ → Result ℕ Broken
 cli_header_place bytes sections directory = do
   at ← ok_or (file_place sections (length bytes) (le bytes directory 4) 72) (parts.cli_header, directory)
-  _ ← must (bit_and (le bytes (at + 16) 4) 0x11 == 0x01) parts.cli_flags (at + 16)
+  _ ← must (bit_and (le bytes (at + 16) 4) 0x11 == 0x01) (parts.cli_flags, at + 16)
   Ok at
 
 -- where the metadata lies, by the directory at 8 of the CLI header

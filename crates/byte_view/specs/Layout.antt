@@ -45,10 +45,10 @@ start_of image start valid heap_sizes rows table =
 
 unfoldable pub layout : List ℕ → ℕ → Result Layout Broken
 layout image start = do
-  _ ← must (nat_le (start + 24) (length image)) parts.tables start
+  _ ← must (nat_le (start + 24) (length image)) (parts.tables, start)
   let heap_sizes : ℕ = le image (start + 6) 1
   let valid : ℕ = le image (start + 8) 8
-  _ ← each (λ table. must (is_table table || not (is_present valid table)) parts.tables (start + 8)) 64
+  _ ← each (λ table. must (is_table table || not (is_present valid table)) (parts.tables, start + 8)) 64
   rows ← listed (row_count image start valid) table_numbers
   starts ← listed (start_of image start valid heap_sizes rows) table_numbers
   Ok (record { heap_sizes = heap_sizes; rows = rows; starts = starts })

@@ -45,7 +45,7 @@ name_end place name = place + (length name / 4 + 1) * 4
 unfoldable pub name_at : List ℕ → ℕ → Result (List ℕ) Broken
 name_at image place = do
   name ← ok_or (text_at image place) (parts.streams, place)
-  _ ← must (nat_le (name_end place name) (length image) && not (bytes_eq name (codes "#-"))) parts.streams place
+  _ ← must (nat_le (name_end place name) (length image) && not (bytes_eq name (codes "#-"))) (parts.streams, place)
   Ok name
 
 -- one stream header: the stream's offset in the metadata, its size, its name

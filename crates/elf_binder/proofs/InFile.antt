@@ -110,7 +110,7 @@ loads_in_file bytes headers all e read =
     bind_then (must (n == 0 || nat_le (le bytes 32 8 + 56 * n) (length bytes)) parts.program_headers 32) _ headers e2 (λ passed must_read e3.
     let pair : ◌≡◌ {A = ℕ × ℕ} (le bytes 32 8, n) headers = same_read _ headers e3 in
     let here : loads bytes (le bytes 32 8) n ≡ Ok all = rw (ap (λ (x : ℕ × ℕ). x.0) pair, ap (λ (x : ℕ × ℕ). x.1) pair) read in
-    within_file (le bytes 32 8) n (length bytes) all (must_ok _ parts.program_headers 32 passed must_read)
+    within_file (le bytes 32 8) n (length bytes) all (must_ok _ (parts.program_headers, 32) passed must_read)
     (no_loads bytes (le bytes 32 8) n all here) (loads_end bytes (le bytes 32 8) n all here))))
 
 -- ---- relocations

@@ -80,7 +80,7 @@ module _ (bytes : List ℕ) (header : ℕ) where
 
   -- what is left to ask of a table
   abbrev finish : List Entry → Result (List Entry) Broken
-  finish table = definition.check_entries table >>= λ _. must (nat_lt (length table) (length all)) parts.dynamic (header + 8) >>= λ _. Ok table
+  finish table = definition.check_entries table >>= λ _. must (nat_lt (length table) (length all)) (parts.dynamic, header + 8) >>= λ _. Ok table
 
   by_table : (table : List Entry) → before_first definition.is_end all ≡ table → definition.dynamic_table bytes header ≡ finish table
   unfolding definition.dynamic_table
@@ -89,7 +89,7 @@ module _ (bytes : List ℕ) (header : ℕ) where
   by_place : (k : ℕ) → position_or_len definition.is_end all ≡ k → definition.dynamic_table bytes header ≡ finish (take k all)
   by_place k e = by_table (take k all) (ap (λ n. take n all) e)
 
-  tested : (table : List Entry) (b : Bool) → nat_lt (length table) (length all) ≡ b → definition.check_entries table ≡ Ok 0 → finish table ≡ (must b parts.dynamic (header + 8) >>= λ _. Ok table)
+  tested : (table : List Entry) (b : Bool) → nat_lt (length table) (length all) ≡ b → definition.check_entries table ≡ Ok 0 → finish table ≡ (must b (parts.dynamic, header + 8) >>= λ _. Ok table)
   tested table b e checked = rw (checked, e) refl
 
   -- the entry at a place ends the table
@@ -143,4 +143,4 @@ module _ (bytes : List ℕ) (header : ℕ) where
       let front : take k (take (position_or_len definition.is_end all) all) ≡ take k all = take-take k (position_or_len definition.is_end all) all (omega arith) in
       let here : get_or (take (position_or_len definition.is_end all) all) k d ≡ definition.entry_at bytes (start + 16 * k) = get_or-take (position_or_len definition.is_end all) all k d on ∙ there in
       let cut = cut_at (take (position_or_len definition.is_end all) all) k d f within (rw front checked) (rw here it) in
-      by_place (position_or_len definition.is_end all) refl ∙ bind_err _ (λ _. must (nat_lt (length (take (position_or_len definition.is_end all) all)) (length all)) parts.dynamic (header + 8) >>= λ _. Ok (take (position_or_len definition.is_end all) all)) f cut) r
+      by_place (position_or_len definition.is_end all) refl ∙ bind_err _ (λ _. must (nat_lt (length (take (position_or_len definition.is_end all) all)) (length all)) (parts.dynamic, header + 8) >>= λ _. Ok (take (position_or_len definition.is_end all) all)) f cut) r

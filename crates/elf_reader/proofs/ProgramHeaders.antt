@@ -9,13 +9,13 @@ use Rattle.elf_reader.specs.declared.part.ElfBad.{ElfBad}
 use Rattle.elf_reader.specs.Refusals.{Refuses}
 use Rattle.elf_reader.proofs.Steps.{refuses_as, chain_more, chain_refused}
 
-another : (bytes : List ℕ) (before : Option ℕ) (is_first : Bool) (at : ℕ) (d : Broken) → is_some before ≡ not is_first → is_of_type pt_dynamic bytes at ≡ true → must is_first parts.dynamic at ≡ Err d → and_dynamic bytes before at ≡ Err d
+another : (bytes : List ℕ) (before : Option ℕ) (is_first : Bool) (at : ℕ) (d : Broken) → is_some before ≡ not is_first → is_of_type pt_dynamic bytes at ≡ true → must is_first (parts.dynamic, at) ≡ Err d → and_dynamic bytes before at ≡ Err d
 another bytes None true at d s e f = absurd (cc)
 another bytes None false at d s e f = absurd (cc)
 another bytes (Some x) true at d s e f = absurd (cc)
 another bytes (Some x) false at d s e f = let same : (parts.dynamic, at) ≡ d = cc in rw (e, same) refl
 
-this : (bytes : List ℕ) (before : Option ℕ) (is_first : Bool) (at y : ℕ) → is_some before ≡ not is_first → is_of_type pt_dynamic bytes at ≡ true → must is_first parts.dynamic at ≡ Ok y → and_dynamic bytes before at ≡ Ok (Some at)
+this : (bytes : List ℕ) (before : Option ℕ) (is_first : Bool) (at y : ℕ) → is_some before ≡ not is_first → is_of_type pt_dynamic bytes at ≡ true → must {R = Broken} is_first (parts.dynamic, at) ≡ Ok y → and_dynamic bytes before at ≡ Ok (Some at)
 this bytes None is_first at y s e f = rw e refl
 this bytes (Some x) true at y s e f = absurd (cc)
 this bytes (Some x) false at y s e f = absurd (cc)
@@ -28,13 +28,13 @@ pub among_none : (bytes : List ℕ) (start : ℕ) → dynamic_among bytes start 
 unfolding dynamic_among
 among_none bytes start = refl
 
-pub among_refused : (bytes : List ℕ) (start : ℕ) (e : ElfBad) (k m : ℕ) (before : Option ℕ) (is_first : Bool) → is_some before ≡ not is_first → dynamic_among bytes start k ≡ Ok before → k < m → is_of_type pt_dynamic bytes (start + 56 * k) ≡ true → Refuses e (must is_first parts.dynamic (start + 56 * k)) → Refuses e (dynamic_among bytes start m)
+pub among_refused : (bytes : List ℕ) (start : ℕ) (e : ElfBad) (k m : ℕ) (before : Option ℕ) (is_first : Bool) → is_some before ≡ not is_first → dynamic_among bytes start k ≡ Ok before → k < m → is_of_type pt_dynamic bytes (start + 56 * k) ≡ true → Refuses e (must is_first (parts.dynamic, start + 56 * k)) → Refuses e (dynamic_among bytes start m)
 unfolding dynamic_among
 among_refused bytes start e k m before is_first s so_far h here r =
     let G : ℕ → Option ℕ → Result (Option ℕ) Broken = λ n x. and_dynamic bytes x (start + 56 * n) in
-    chain_refused (dynamic_among bytes start) G (λ n. refl) e k m before so_far h (refuses_as e (must is_first parts.dynamic (start + 56 * k)) (G k before) (λ d f. another bytes before is_first (start + 56 * k) d s here f) r)
+    chain_refused (dynamic_among bytes start) G (λ n. refl) e k m before so_far h (refuses_as e (must is_first (parts.dynamic, start + 56 * k)) (G k before) (λ d f. another bytes before is_first (start + 56 * k) d s here f) r)
 
-pub among_found : (bytes : List ℕ) (start k y : ℕ) (before : Option ℕ) (is_first : Bool) → is_some before ≡ not is_first → dynamic_among bytes start k ≡ Ok before → is_of_type pt_dynamic bytes (start + 56 * k) ≡ true → must is_first parts.dynamic (start + 56 * k) ≡ Ok y → dynamic_among bytes start (k + 1) ≡ Ok (Some (start + 56 * k))
+pub among_found : (bytes : List ℕ) (start k y : ℕ) (before : Option ℕ) (is_first : Bool) → is_some before ≡ not is_first → dynamic_among bytes start k ≡ Ok before → is_of_type pt_dynamic bytes (start + 56 * k) ≡ true → must {R = Broken} is_first (parts.dynamic, start + 56 * k) ≡ Ok y → dynamic_among bytes start (k + 1) ≡ Ok (Some (start + 56 * k))
 unfolding dynamic_among
 among_found bytes start k y before is_first s so_far here f =
     chain_more (dynamic_among bytes start) (λ n x. and_dynamic bytes x (start + 56 * n)) (λ n. refl) k before (Some (start + 56 * k)) so_far (this bytes before is_first (start + 56 * k) y s here f)

@@ -21,7 +21,7 @@ pub fn broken(part: ElfPart, at: usize) -> ElfBad
 
 /// Refuses the part at `at` unless a test of it holds.
 pub fn must(holds: bool, part: ElfPart, at: usize) -> Result<(), ElfBad>
-    ensures { Reads (λ _. 0) result (reading.must holds (part_place part) at) }
+    ensures { Reads (λ _. 0) result (reading.must holds (part_place part, at)) }
 {
     if holds { Ok(()) } else { Err(broken(part, at)) }
 }

@@ -4,8 +4,8 @@ use Rattle.std.specs.Prelude.{⊤}
 use Rattle.bound_base.specs.Outside.{appended, AppendsFront}
 use Rattle.bound_base.specs.declared.image.BadImage.{BadImage}
 use Rattle.bound_base.specs.declared.image.BadImage.TheVariants.{Bad, Memory}
-use Rattle.bound_base.specs.Image.{Refuses}
-use Rattle.byte_view.specs.Reading.{Broken, ◌>>=◌}
+use Rattle.bound_base.specs.Image.{refusal}
+use Rattle.byte_view.specs.Reading.{Broken, ◌>>=◌, Refuses}
 use Rattle.byte_view.specs.Headers.{Headers, headers}
 use Rattle.byte_view.specs.Metadata.{Metadata}
 use Rattle.byte_view.specs.Assembly.{assembly, metadata}
@@ -17,20 +17,20 @@ use Rattle.host_run.specs.declared.stop.PutError.TheVariants as put
 use Rattle.host_run.proofs.Puts.{front-none}
 
 -- a part that is broken in the first step is broken in the whole
-refuses-bind : {A B : Type 0} (e : BadImage) (r : Result A Broken) (f : A → Result B Broken) → Refuses e r → Refuses e (r >>= f)
+refuses-bind : {A B : Type 0} (e : BadImage) (r : Result A Broken) (f : A → Result B Broken) → Refuses refusal e r → Refuses refusal e (r >>= f)
 refuses-bind (Bad part at) r f h = ap (λ x. x >>= f) h
 refuses-bind Memory r f h = tt
 
-pub refuses-headers : (e : BadImage) (bytes : List ℕ) → Refuses e (headers bytes) → Refuses e (assembly bytes)
+pub refuses-headers : (e : BadImage) (bytes : List ℕ) → Refuses refusal e (headers bytes) → Refuses refusal e (assembly bytes)
 unfolding assembly
 refuses-headers e bytes h = refuses-bind e (headers bytes) (λ x. metadata bytes x.meta_at x.meta_size) h
 
-pub refuses-metadata : (e : BadImage) (bytes : List ℕ) (h : Headers) → headers bytes ≡ Ok h → Refuses e (metadata bytes h.meta_at h.meta_size) → Refuses e (assembly bytes)
+pub refuses-metadata : (e : BadImage) (bytes : List ℕ) (h : Headers) → headers bytes ≡ Ok h → Refuses refusal e (metadata bytes h.meta_at h.meta_size) → Refuses refusal e (assembly bytes)
 unfolding assembly
 refuses-metadata (Bad part at) bytes h read refused = ap (λ x. x >>= (λ y. metadata bytes y.meta_at y.meta_size)) read ∙ refused
 refuses-metadata Memory bytes h read refused = tt
 
-pub meets-refused : (e : BadImage) (a : Result Metadata Broken) (t : Option (List ℕ)) → Refuses e a → Meets (imports_of a) (Err (image_stop e)) t t
+pub meets-refused : (e : BadImage) (a : Result Metadata Broken) (t : Option (List ℕ)) → Refuses refusal e a → Meets (imports_of a) (Err (image_stop e)) t t
 meets-refused (Bad part at) a t h = (ap imports_of h, refl)
 meets-refused Memory a t h = front-none t t (imports_of a).out refl
 

@@ -7,12 +7,12 @@ use Rattle.std.proofs.lemmas.List.Sums.{sum-map}
 use Rattle.std.proofs.lemmas.List.FromFn.{length-map-range_with_len, get_or-map-range_with_len, take-map-range_with_len}
 use Rattle.std.proofs.lemmas.Option.{slice_get-get_or}
 use Rattle.bound_base.specs.declared.image.BadImage.{BadImage}
-use Rattle.bound_base.specs.Image.{Refuses}
+use Rattle.bound_base.specs.Image.{refusal}
 use Rattle.byte_view.specs.Columns as bv
 use Rattle.byte_view.specs.Columns.{columns, width, row_width}
 use Rattle.byte_view.specs.Metadata.{Metadata, table_of, tables_in, row_at, cell_place}
 use Rattle.byte_view.specs.Cells.{rows_in, is_row_of, is_sound, is_sound_in, value_in, value_before, check_row, check_table}
-use Rattle.byte_view.specs.Reading.{must, each}
+use Rattle.byte_view.specs.Reading.{must, each, Refuses}
 use Rattle.byte_view.proofs.Reading.{each_same}
 use Rattle.meta_tables.specs.declared.columns.Column.{Column}
 use Rattle.meta_tables.specs.declared.columns.Width.{Width}
@@ -22,7 +22,7 @@ use Rattle.meta_tables.specs.declared.layout.Shape.{Shape}
 use Rattle.meta_tables.specs.View.{bytes_of, view_column}
 use Rattle.meta_tables.specs.Shapes.{view_layout, view_shape, shape_of, width_at, cell_widths, cells_at, IsLaidOut}
 use Rattle.meta_tables.specs.Cells.{Sizes, metadata_of, sizes_of, is_row_by, sound_by, sound_in, tests_row, row_before}
-use Rattle.meta_tables.proofs.Steps.{each_refused}
+use Rattle.byte_view.proofs.Refusals.{each_refused}
 use Rattle.meta_tables.proofs.Tables.{sum_cells, columns_few}
 use Rattle.meta_tables.proofs.RowCells.{row_is}
 
@@ -94,32 +94,32 @@ row_check_is h stream l table row place shape cols rows before now laid same_row
     let count : length cols ≡ length (columns table) = sym (length-map cols view_column) ∙ ap length same_cols in
     let few = columns_few table in
     let steps : each (tests_row (sizes_of h l.rows.items) (columns table) (cell_widths l.heap_sizes l.rows.items table) place (row_before stream (view_layout l) table row) (row_at stream (view_layout l) table row)) (length (columns table))
-    ≡ each (λ column. must (is_sound_in m (slice_get (columns table) column) (value_before m table row column) (value_in m table row column)) 12 (cell_place (view_layout l) table row column)) (length (columns table)) =
+    ≡ each (λ column. must (is_sound_in m (slice_get (columns table) column) (value_before m table row column) (value_in m table row column)) (12, cell_place (view_layout l) table row column)) (length (columns table)) =
     each_same _ _ (length (columns table)) (λ column within.
     let nine : column < 9 = omega arith in
     let sound = sound_in_is h stream l (slice_get (columns table) column) (get_or (row_before stream (view_layout l) table row) column 0) (get_or (row_at stream (view_layout l) table row) column 0) laid.rows in
     let f : ℕ → ℕ = λ k. width_at l.heap_sizes l.rows.items (slice_get (columns table) k) in
     let offset : sum (take column (cell_widths l.heap_sizes l.rows.items table)) ≡ sum_by (width l.heap_sizes l.rows.items) (take column (columns table)) =
     ap sum (take-map-range_with_len f 0 9 column (omega arith)) ∙ sum_cells l.heap_sizes l.rows.items (columns table) column in
-    ap (λ b. must b 12 (place + sum (take column (cell_widths l.heap_sizes l.rows.items table)))) sound
-    ∙ ap (λ v. must (is_sound_in m (slice_get (columns table) column) v (get_or (row_at stream (view_layout l) table row) column 0)) 12 (place + sum (take column (cell_widths l.heap_sizes l.rows.items table)))) (before_is h stream l table row column laid.rows h0 nine)
-    ∙ ap (λ v. must (is_sound_in m (slice_get (columns table) column) (value_before m table row column) v) 12 (place + sum (take column (cell_widths l.heap_sizes l.rows.items table)))) (value_is h stream l table row column laid.rows h0)
-    ∙ ap (λ n. must (is_sound_in m (slice_get (columns table) column) (value_before m table row column) (value_in m table row column)) 12 (place + n)) offset
-    ∙ ap (λ p. must (is_sound_in m (slice_get (columns table) column) (value_before m table row column) (value_in m table row column)) 12 (p + sum_by (width l.heap_sizes l.rows.items) (take column (columns table)))) start) in
+    ap (λ b. must b (12, place + sum (take column (cell_widths l.heap_sizes l.rows.items table)))) sound
+    ∙ ap (λ v. must (is_sound_in m (slice_get (columns table) column) v (get_or (row_at stream (view_layout l) table row) column 0)) (12, place + sum (take column (cell_widths l.heap_sizes l.rows.items table)))) (before_is h stream l table row column laid.rows h0 nine)
+    ∙ ap (λ v. must (is_sound_in m (slice_get (columns table) column) (value_before m table row column) v) (12, place + sum (take column (cell_widths l.heap_sizes l.rows.items table)))) (value_is h stream l table row column laid.rows h0)
+    ∙ ap (λ n. must (is_sound_in m (slice_get (columns table) column) (value_before m table row column) (value_in m table row column)) (12, place + n)) offset
+    ∙ ap (λ p. must (is_sound_in m (slice_get (columns table) column) (value_before m table row column) (value_in m table row column)) (12, p + sum_by (width l.heap_sizes l.rows.items) (take column (columns table)))) start) in
     rw (same_rows, same_before, same_now, widths, same_cols, count) steps
 
 -- a test of the code, with its place
 pub test_is : (s : Sizes) (cols : List Column) (widths : List Width) (start : ℕ) (before row : List ℕ) (k : ℕ) (d : Column) → k < length cols
     → tests_row s (map view_column cols) (map bytes_of widths) start before row k
-    ≡ must (sound_by s (view_column (get_or cols k d)) (get_or before k 0) (get_or row k 0)) 12 (start + sum_by bytes_of (take k widths))
+    ≡ must (sound_by s (view_column (get_or cols k d)) (get_or before k 0) (get_or row k 0)) (12, start + sum_by bytes_of (take k widths))
 test_is s cols widths start before row k d h =
     let count = length-map cols view_column in
     let within : k < length (map view_column cols) = omega (arith, count) in
     let column : slice_get (map view_column cols) k ≡ Some (view_column (get_or cols k d)) =
     slice_get-get_or (map view_column cols) k (view_column d) within ∙ ap Some (get_or-map view_column cols k d (view_column d) h) in
     let offset : sum (take k (map bytes_of widths)) ≡ sum_by bytes_of (take k widths) = ap sum (take-map bytes_of k widths) ∙ sum-map bytes_of (take k widths) in
-    ap (λ (o : Option bv.Column). must (sound_in s o (get_or before k 0) (get_or row k 0)) 12 (start + sum (take k (map bytes_of widths)))) column
-    ∙ ap (λ n. must (sound_by s (view_column (get_or cols k d)) (get_or before k 0) (get_or row k 0)) 12 (start + n)) offset
+    ap (λ (o : Option bv.Column). must (sound_in s o (get_or before k 0) (get_or row k 0)) (12, start + sum (take k (map bytes_of widths)))) column
+    ∙ ap (λ n. must (sound_by s (view_column (get_or cols k d)) (get_or before k 0) (get_or row k 0)) (12, start + n)) offset
 
 -- a table whose rows all pass
 pub table_passes : (h : Heaps) (stream : List ℕ) (l : CodeLayout) (table n : ℕ) → length l.rows.items ≡ 45 → each (check_row (view_layout l) (metadata_of h stream l) table) n ≡ Ok 0
@@ -130,12 +130,12 @@ table_passes h stream l table n len passed e =
 
 -- a table with a row that doesn't pass
 pub table_refused : (e : BadImage) (h : Heaps) (stream : List ℕ) (l : CodeLayout) (table row : ℕ) → length l.rows.items ≡ 45
-    → each (check_row (view_layout l) (metadata_of h stream l) table) row ≡ Ok 0 → row < get_or l.rows.items table 0 → Refuses e (check_row (view_layout l) (metadata_of h stream l) table row)
-    → Refuses e (check_table (view_layout l) (metadata_of h stream l) table)
+    → each (check_row (view_layout l) (metadata_of h stream l) table) row ≡ Ok 0 → row < get_or l.rows.items table 0 → Refuses refusal e (check_row (view_layout l) (metadata_of h stream l) table row)
+    → Refuses refusal e (check_table (view_layout l) (metadata_of h stream l) table)
 unfolding check_table
 table_refused e h stream l table row len passed h0 refused =
     let count = rows_in_is h stream l table len in
-    each_refused e (check_row (view_layout l) (metadata_of h stream l) table) row (rows_in (metadata_of h stream l) table) 0 passed (omega (arith, count)) refused
+    each_refused refusal e (check_row (view_layout l) (metadata_of h stream l) table) row (rows_in (metadata_of h stream l) table) 0 passed (omega (arith, count)) refused
 
 -- a table's columns are few
 pub columns_short : (cols : List Column) (table : ℕ) → map view_column cols ≡ columns table → length cols ≤ 9

@@ -2,12 +2,12 @@
 use Rattle.std.proofs.Common.{◌≡◌, ℕ, zero, suc, ◌+◌, ◌<◌, ◌≤◌, List, Ok, Err, Bool, true, false, Option, Some, None, codes, if◌then◌else◌, refl, inl, inr, add-one, arith}
 use Rattle.std.proofs.lemmas.Bool.{cases_lt}
 use Rattle.bound_base.specs.declared.image.BadImage.{BadImage}
-use Rattle.bound_base.specs.Image.{Refuses}
-use Rattle.byte_view.specs.Reading.{Broken}
+use Rattle.bound_base.specs.Image.{refusal}
+use Rattle.byte_view.specs.Reading.{Broken, Refuses}
 use Rattle.byte_view.specs.Streams.{Range, Streams, Stream, first_of, stream_at, with_stream, streams_after}
 use Rattle.std.specs.Str.{bytes_eq}
 use Rattle.meta_tables.specs.View.{IsWithin, AreWithin}
-use Rattle.meta_tables.proofs.Refusals.{refuses_as}
+use Rattle.byte_view.proofs.Refusals.{refuses_as}
 
 -- the streams after one more header
 pub streams_next : (image : List ℕ) (at first n : ℕ) (s : Streams) (place : ℕ) (x : Stream) → streams_after image at first n ≡ Ok (s, place) → stream_at image at place ≡ Ok x
@@ -30,10 +30,10 @@ fails_after image at first n (suc m) d e h =
     ]
 
 -- the first header that is broken
-pub streams_refused : (e : BadImage) (image : List ℕ) (at first n m : ℕ) (s : Streams) (place : ℕ) → streams_after image at first n ≡ Ok (s, place) → n < m → Refuses e (stream_at image at place)
-    → Refuses e (streams_after image at first m)
+pub streams_refused : (e : BadImage) (image : List ℕ) (at first n m : ℕ) (s : Streams) (place : ℕ) → streams_after image at first n ≡ Ok (s, place) → n < m → Refuses refusal e (stream_at image at place)
+    → Refuses refusal e (streams_after image at first m)
 streams_refused e image at first n m s place before h =
-    refuses_as e (stream_at image at place) (streams_after image at first m)
+    refuses_as refusal e (stream_at image at place) (streams_after image at first m)
     (λ d f. fails_after image at first (suc n) m d (fails_next image at first n s place d before f) h)
 
 first_within : (image : List ℕ) (o : Option Range) (r : Range) → IsWithin image o → IsWithin image (Some r) → IsWithin image (first_of o r)

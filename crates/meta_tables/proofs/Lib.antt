@@ -1,6 +1,4 @@
-pub mod Refusals
 pub mod Numbers
-pub mod Steps
 pub mod Headers
 pub mod Valid
 pub mod Tables

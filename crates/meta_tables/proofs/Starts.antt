@@ -5,14 +5,14 @@ use Rattle.std.proofs.lemmas.Bool.{le-leb}
 use Rattle.std.proofs.lemmas.List.{map_push}
 use Rattle.std.proofs.lemmas.List.FromFn.{map-range_with_len_more}
 use Rattle.bound_base.specs.declared.image.BadImage.{BadImage}
-use Rattle.bound_base.specs.Image.{Refuses}
+use Rattle.bound_base.specs.Image.{refusal}
 use Rattle.byte_view.specs.Numbers.{le}
-use Rattle.byte_view.specs.Reading.{each, listed}
+use Rattle.byte_view.specs.Reading.{each, listed, Refuses}
 use Rattle.byte_view.specs.Columns.{row_width}
 use Rattle.byte_view.specs.Layout.{table_start, row_count, start_of, layout}
 use Rattle.meta_tables.specs.declared.layout.Shape.{Shape}
 use Rattle.meta_tables.specs.Shapes.{view_shape, shape_of, tests_valid}
-use Rattle.meta_tables.proofs.Refusals.{refuses_as}
+use Rattle.byte_view.proofs.Refusals.{refuses_as}
 use Rattle.meta_tables.proofs.Tables.{table_start_next}
 
 -- the end of a table's rows, as the code reckons it, is where the next table's begin
@@ -31,11 +31,11 @@ shapes_more heap_sizes rows table shapes shape before e =
     ∙ sym (map-range_with_len_more (shape_of heap_sizes rows) 0 table table (omega arith))
 
 -- a Valid that is refused
-pub layout_invalid : (e : BadImage) (image : List ℕ) (start valid : ℕ) → start + 24 ≤ length image → valid ≡ le image (start + 8) 8 → Refuses e (each (tests_valid valid (start + 8)) 64)
-    → Refuses e (layout image start)
+pub layout_invalid : (e : BadImage) (image : List ℕ) (start valid : ℕ) → start + 24 ≤ length image → valid ≡ le image (start + 8) 8 → Refuses refusal e (each (tests_valid valid (start + 8)) 64)
+    → Refuses refusal e (layout image start)
 unfolding layout
 layout_invalid e image start valid h v =
-    refuses_as e (each (tests_valid valid (start + 8)) 64) (layout image start)
+    refuses_as refusal e (each (tests_valid valid (start + 8)) 64) (layout image start)
     (λ d f. rw (le-leb (start + 24) (length image) h, ← v, f) refl)
 
 -- a layout that was read

@@ -5,9 +5,9 @@ use Rattle.std.proofs.lemmas.Bool.{leb-true}
 use Rattle.std.proofs.lemmas.List.FromFn.{length-map-range_with_len, get_or-map-range_with_len}
 use Rattle.std.proofs.lemmas.Option.{slice_get-get_or, slice_get_past}
 use Rattle.bound_base.specs.declared.image.BadImage.{BadImage}
-use Rattle.bound_base.specs.Image.{Refuses}
+use Rattle.bound_base.specs.Image.{refusal}
 use Rattle.byte_view.specs.Numbers.{le}
-use Rattle.byte_view.specs.Reading.{Broken, ◌>>=◌, must, each, listed}
+use Rattle.byte_view.specs.Reading.{Broken, ◌>>=◌, must, each, listed, Refuses}
 use Rattle.byte_view.specs.Columns.{row_width}
 use Rattle.byte_view.specs.Layout.{Layout, table_start, count_place, row_count, start_of, layout}
 use Rattle.byte_view.specs.Streams.{Range, Streams, streams}
@@ -19,7 +19,7 @@ use Rattle.meta_tables.specs.declared.heaps.Heaps.{Heaps}
 use Rattle.meta_tables.specs.declared.layout.Layout.{Layout as CodeLayout}
 use Rattle.meta_tables.specs.Shapes.{view_layout, tests_valid, HasShapes, IsLaidOut}
 use Rattle.meta_tables.specs.Cells.{metadata_of, AreHeapsOf}
-use Rattle.meta_tables.proofs.Refusals.{refuses_as}
+use Rattle.byte_view.proofs.Refusals.{refuses_as}
 use Rattle.meta_tables.proofs.Tables.{table_start_next}
 use Rattle.meta_tables.proofs.Checks.{table_of_is}
 
@@ -55,7 +55,7 @@ layout_ok : (image : List ℕ) (start : ℕ) (l : Layout) → layout image start
 unfolding layout placed
 layout_ok image start l e =
     let counted : ℕ → Result Layout Broken = λ _. listed (row_count image start (le image (start + 8) 8)) 45 >>= λ rows. placed image start rows in
-    let one = bind_ok (must _ 11 start) (λ _. each (tests_valid (le image (start + 8) 8) (start + 8)) 64 >>= counted) l e in
+    let one = bind_ok (must _ (11, start)) (λ _. each (tests_valid (le image (start + 8) 8) (start + 8)) 64 >>= counted) l e in
     let two = bind_ok (each (tests_valid (le image (start + 8) 8) (start + 8)) 64) counted l one.2 in
     let three = bind_ok (listed (row_count image start (le image (start + 8) 8)) 45) (λ rows. placed image start rows) l two.2 in
     (three.0, three.1, three.2)
@@ -90,22 +90,22 @@ metadata_read image at tables s h l stream read cut laid heaps passed =
 
 -- metadata with a cell that doesn't pass
 pub metadata_refused : (e : BadImage) (image : List ℕ) (at : ℕ) (tables : Range) (s : Streams) (h : Heaps) (l : CodeLayout) (stream : List ℕ) → streams image at ≡ Ok (tables, s)
-    → stream ≡ take tables.end image → layout stream tables.start ≡ Ok (view_layout l) → AreHeapsOf image s h → Refuses e (check_cells (view_layout l) (metadata_of h stream l))
-    → Refuses e (metadata_in image at)
+    → stream ≡ take tables.end image → layout stream tables.start ≡ Ok (view_layout l) → AreHeapsOf image s h → Refuses refusal e (check_cells (view_layout l) (metadata_of h stream l))
+    → Refuses refusal e (metadata_in image at)
 metadata_refused e image at tables s h l stream read cut laid heaps refused =
-    refuses_as e (check_cells (view_layout l) (metadata_of h stream l)) (metadata_in image at)
+    refuses_as refusal e (check_cells (view_layout l) (metadata_of h stream l)) (metadata_in image at)
     (λ d f. metadata_is image at tables s h l stream read cut laid heaps ∙ (rw f refl)) refused
 
 -- metadata without streams or a layout
-pub streams_broken : (e : BadImage) (image : List ℕ) (at : ℕ) → Refuses e (streams image at) → Refuses e (metadata_in image at)
+pub streams_broken : (e : BadImage) (image : List ℕ) (at : ℕ) → Refuses refusal e (streams image at) → Refuses refusal e (metadata_in image at)
 unfolding metadata_in
-streams_broken e image at refused = refuses_as e (streams image at) (metadata_in image at) (λ d f. rw f refl) refused
+streams_broken e image at refused = refuses_as refusal e (streams image at) (metadata_in image at) (λ d f. rw f refl) refused
 
 pub layout_broken : (e : BadImage) (image : List ℕ) (at : ℕ) (tables : Range) (s : Streams) (stream : List ℕ) → streams image at ≡ Ok (tables, s) → stream ≡ take tables.end image
-    → Refuses e (layout stream tables.start) → Refuses e (metadata_in image at)
+    → Refuses refusal e (layout stream tables.start) → Refuses refusal e (metadata_in image at)
 unfolding metadata_in
 layout_broken e image at tables s stream read cut refused =
-    refuses_as e (layout stream tables.start) (metadata_in image at) (λ d f. rw (read, ← cut, f) refl) refused
+    refuses_as refusal e (layout stream tables.start) (metadata_in image at) (λ d f. rw (read, ← cut, f) refl) refused
 
 -- rows by their numbers
 pub row_zero : (m : Metadata) (table n : ℕ) → n ≡ 0 → row_of m table n ≡ None

@@ -61,7 +61,7 @@ sound_in s (Some column) before value = sound_by s column before value
 -- the test of a cell of a row, which begins at a place, by the numbers of the row before and of the row
 abbrev pub tests_row : Sizes → List Column → List ℕ → ℕ → List ℕ → List ℕ → ℕ → Result ℕ Broken
 tests_row s columns widths start before row column =
-    must (sound_in s (slice_get columns column) (slice_index before column) (slice_index row column)) parts.cell (start + sum (take column widths))
+    must (sound_in s (slice_get columns column) (slice_index before column) (slice_index row column)) (parts.cell, start + sum (take column widths))
 
 -- the numbers of the row before, zeros at the first
 abbrev pub row_before : List ℕ → Layout → ℕ → ℕ → List ℕ

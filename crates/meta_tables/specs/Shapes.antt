@@ -16,7 +16,7 @@ view_layout l = record { heap_sizes = l.heap_sizes; rows = l.rows.items; starts 
 
 -- a bit of Valid that is set is a table's
 abbrev pub tests_valid : ℕ → ℕ → ℕ → Result ℕ Broken
-tests_valid valid at table = must (is_table table || not (is_present valid table)) parts.tables at
+tests_valid valid at table = must (is_table table || not (is_present valid table)) (parts.tables, at)
 
 -- the width of a cell, 0 behind the last column
 abbrev pub width_at : ℕ → List ℕ → Option Column → ℕ

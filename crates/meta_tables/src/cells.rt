@@ -2,9 +2,9 @@
 
 ghost use Rattle.std.specs.Prelude.{◌≡◌, ◌+◌, ◌*◌, ◌/◌, ◌%◌, ◌^◌, ◌<◌, ◌≤◌, ◌||◌, ◌==◌, nat_lt, nat_le, map, length, slice_index, slice_get};
 ghost use Rattle.std.specs.List.{sum_by};
-ghost use Rattle.bound_base.specs.Image.{Reads};
+ghost use Rattle.bound_base.specs.Image.{refusal};
 ghost use Rattle.byte_view.specs.Columns.{table_numbers};
-ghost use Rattle.byte_view.specs.Reading.{each};
+ghost use Rattle.byte_view.specs.Reading.{Reads, each};
 ghost use Rattle.byte_view.specs.Cells.{check_table as table_check, check_cells as cells_check};
 ghost use Rattle.meta_tables.specs.View.{bytes_of, view_column};
 ghost use Rattle.meta_tables.specs.Shapes.{view_layout, IsLaidOut};
@@ -27,7 +27,7 @@ static CHECKED_TABLES: [u8; 19] = [
 /// Refuses the first cell of the checked tables that isn't sound.
 pub fn check_cells(stream: &[u8], layout: &Layout, heaps: &Heaps<'_>) -> Result<(), BadImage>
     requires { IsLaidOut stream.now layout.now }
-    ensures { Reads (λ _. 0) result (cells_check (view_layout layout.now) (metadata_of heaps.now stream.now layout.now)) }
+    ensures { Reads refusal (λ _. 0) result (cells_check (view_layout layout.now) (metadata_of heaps.now stream.now layout.now)) }
 {
     for table in CHECKED_TABLES.iter() {
         check_table(stream, layout, heaps, *table)?;
@@ -39,7 +39,7 @@ pub fn check_cells(stream: &[u8], layout: &Layout, heaps: &Heaps<'_>) -> Result<
 fn check_table(stream: &[u8], layout: &Layout, heaps: &Heaps<'_>, table: u8) -> Result<(), BadImage>
     requires layout { IsLaidOut stream.now layout.now }
     requires table { table < table_numbers }
-    ensures { Reads (λ _. 0) result (table_check (view_layout layout.now) (metadata_of heaps.now stream.now layout.now) table) }
+    ensures { Reads refusal (λ _. 0) result (table_check (view_layout layout.now) (metadata_of heaps.now stream.now layout.now) table) }
 {
     let rows = layout.rows.as_slice();
     let columns = columns(table);
@@ -67,7 +67,7 @@ fn check_row(
 ) -> Result<(), BadImage>
     requires columns { length columns.now ≤ 9 }
     requires start { start < 2 ^ 63 }
-    ensures { Reads (λ _. 0) result (each (tests_row (sizes_of heaps.now rows.now) (map view_column columns.now) (map bytes_of widths.now) start before.now row.now) (length columns.now)) }
+    ensures { Reads refusal (λ _. 0) result (each (tests_row (sizes_of heaps.now rows.now) (map view_column columns.now) (map bytes_of widths.now) start before.now row.now) (length columns.now)) }
 {
     let mut place = start;
     for column in 0..columns.len() {

@@ -2,9 +2,9 @@
 
 ghost use Rattle.std.specs.Option.{option_copied};
 ghost use Rattle.std.specs.Prelude.{◌≡◌, ◌==◌, ◌+◌, ◌<◌, ◌≤◌, length, position};
-ghost use Rattle.bound_base.specs.Image.{Reads, part_place};
+ghost use Rattle.bound_base.specs.Image.{part_place, refusal};
 ghost use Rattle.byte_view.specs.Numbers.{le};
-ghost use Rattle.byte_view.specs.Reading.{field};
+ghost use Rattle.byte_view.specs.Reading.{Reads, field};
 ghost use Rattle.byte_view.specs.Heaps.{text_at as text_of};
 
 use bound_base::{BadImage, Part};
@@ -12,7 +12,7 @@ use byte_view::{le16, le32, le64};
 
 /// A number of two bytes.
 pub fn field16(part: Part, image: &[u8], at: usize) -> Result<u16, BadImage>
-    ensures { Reads (λ x. x) result (field (part_place part) image.now at 2) }
+    ensures { Reads refusal (λ x. x) result (field (part_place part) image.now at 2) }
 {
     match le16(image, at) {
         Some(number) => Ok(number),
@@ -25,7 +25,7 @@ pub fn field16(part: Part, image: &[u8], at: usize) -> Result<u16, BadImage>
 
 /// A number of four bytes.
 pub fn field32(part: Part, image: &[u8], at: usize) -> Result<u32, BadImage>
-    ensures { Reads (λ x. x) result (field (part_place part) image.now at 4) }
+    ensures { Reads refusal (λ x. x) result (field (part_place part) image.now at 4) }
 {
     match le32(image, at) {
         Some(number) => Ok(number),

@@ -3,8 +3,8 @@
 
 ghost use Rattle.std.specs.Prelude.{◌≡◌, ◌||◌, not, ◌+◌, ◌<◌, ◌≤◌, ◌*◌, ◌^◌, sum_by, map, length, slice_get, IfOk};
 ghost use Rattle.std.specs.List.{range_with_len};
-ghost use Rattle.bound_base.specs.Image.{Reads};
-ghost use Rattle.byte_view.specs.Reading.{each, listed};
+ghost use Rattle.bound_base.specs.Image.{refusal};
+ghost use Rattle.byte_view.specs.Reading.{Reads, each, listed};
 ghost use Rattle.byte_view.specs.Columns.{is_table as names_table, table_numbers};
 ghost use Rattle.byte_view.specs.Layout.{is_present, present_below as presents, count_place as place_of_count, row_count, start_of, layout};
 ghost use Rattle.meta_tables.specs.View.{bytes_of, view_column};
@@ -38,7 +38,7 @@ pub struct Layout {
 #[tactic(auto, unfolding(byte_view::specs::Layout::layout))]
 pub fn read_layout(alloc: Global, image: &[u8], start: usize) -> Result<Layout, BadImage>
     requires { start ≤ length image.now }
-    ensures reads { Reads view_layout result (layout image.now start) }
+    ensures reads { Reads refusal view_layout result (layout image.now start) }
     ensures shapes { IfOk result HasShapes }
 {
     if image.len() - start < 24 {
@@ -85,7 +85,7 @@ fn is_valid(valid: u64, table: u8) -> bool
 
 /// Refuses Valid where it has a bit that is no table's.
 fn check_valid(valid: u64, at: u64) -> Result<(), BadImage>
-    ensures { Reads (λ _. 0) result (each (tests_valid valid at) 64) }
+    ensures { Reads refusal (λ _. 0) result (each (tests_valid valid at) 64) }
 {
     for table in 0..64 {
         if !is_valid(valid, table) {
@@ -128,7 +128,7 @@ fn count_place(start: usize, valid: u64, table: u8) -> usize
 fn row_count_of(image: &[u8], start: usize, valid: u64, table: u8) -> Result<u32, BadImage>
     requires table { table < 64 }
     requires start { start < 2 ^ 63 }
-    ensures { Reads (λ x. x) result (row_count image.now start valid table) }
+    ensures { Reads refusal (λ x. x) result (row_count image.now start valid table) }
 {
     if is_there(valid, table) {
         field32(Part::Tables, image, count_place(start, valid, table))
@@ -140,7 +140,7 @@ fn row_count_of(image: &[u8], start: usize, valid: u64, table: u8) -> Result<u32
 /// The row counts of all tables.
 fn row_counts(alloc: Global, image: &[u8], start: usize, valid: u64) -> Result<Vec<u32>, BadImage>
     requires { start < 2 ^ 63 }
-    ensures { Reads (λ rows. rows.items) result (listed (row_count image.now start valid) table_numbers) }
+    ensures { Reads refusal (λ rows. rows.items) result (listed (row_count image.now start valid) table_numbers) }
 {
     let mut rows = Vec::new(alloc);
     for table in 0..TABLE_NUMBERS {
@@ -215,7 +215,7 @@ fn lay_out(
     rows: &[u32],
 ) -> Result<(Vec<usize>, Vec<Shape>), BadImage>
     requires { start ≤ length image.now }
-    ensures starts { Reads (λ x. x.0.items) result (listed (start_of image.now start valid heap_sizes rows.now) table_numbers) }
+    ensures starts { Reads refusal (λ x. x.0.items) result (listed (start_of image.now start valid heap_sizes rows.now) table_numbers) }
     ensures shapes { IfOk result (λ x. map view_shape x.1.items ≡ map (shape_of heap_sizes rows.now) (range_with_len 0 table_numbers)) }
 {
     let mut starts = Vec::new(alloc);

@@ -2,7 +2,8 @@
 
 ghost use Rattle.std.specs.Prelude.{◌≡◌, ◌+◌, ◌≤◌, length, IfOk};
 ghost use Rattle.std.specs.Option.{option_copied};
-ghost use Rattle.bound_base.specs.Image.{Reads};
+ghost use Rattle.bound_base.specs.Image.{refusal};
+ghost use Rattle.byte_view.specs.Reading.{Reads};
 ghost use Rattle.byte_view.specs.Assembly.{metadata};
 ghost use Rattle.byte_view.specs.Cells.{rows_in};
 ghost use Rattle.byte_view.specs.Heaps.{text_at as text_of, blob_at, user_string_at};
@@ -47,7 +48,7 @@ impl<'a> Model for Meta<'a> {
 /// `BadImage::Memory` where there is no memory for the places of the tables.
 pub fn read_meta(alloc: Global, bytes: &[u8], at: u64, size: u32) -> Result<Meta<'_>, BadImage>
     requires { at + size ≤ length bytes.now }
-    ensures { Reads (λ m. m) result (metadata bytes.now at size) }
+    ensures { Reads refusal (λ m. m) result (metadata bytes.now at size) }
 {
     let at = at as usize;
     let image = &bytes[..at + size as usize];

@@ -2,7 +2,8 @@
 //! metadata, which begins at `at`.
 
 ghost use Rattle.std.specs.Prelude.{◌≡◌, ◌≤◌, length, Some, IfOk};
-ghost use Rattle.bound_base.specs.Image.{Reads};
+ghost use Rattle.bound_base.specs.Image.{refusal};
+ghost use Rattle.byte_view.specs.Reading.{Reads};
 ghost use Rattle.byte_view.specs.Streams.{root, name_at, stream_at, with_stream, streams_after, streams};
 ghost use Rattle.meta_tables.specs.View.{view_streams, view_stream, view_range, IsWithin, AreWithin};
 
@@ -37,7 +38,7 @@ struct Stream<'a> {
 /// The number of streams, and where their headers begin.
 #[tactic(auto, unfolding(byte_view::specs::Streams::root))]
 fn root_of(image: &[u8], at: usize) -> Result<(u16, usize), BadImage>
-    ensures { Reads (λ x. (x.0, x.1)) result (root image.now at) }
+    ensures { Reads refusal (λ x. (x.0, x.1)) result (root image.now at) }
 {
     let part = Part::MetadataRoot;
     let signature = field32(part, image, at)?;
@@ -63,7 +64,7 @@ fn root_of(image: &[u8], at: usize) -> Result<(u16, usize), BadImage>
 #[tactic(auto, unfolding(byte_view::specs::Streams::name_at))]
 fn name_of(image: &[u8], place: usize) -> Result<&[u8], BadImage>
     requires { place ≤ length image.now }
-    ensures { Reads (λ name. name.now) result (name_at image.now place) }
+    ensures { Reads refusal (λ name. name.now) result (name_at image.now place) }
 {
     let bad = BadImage::Bad {
         part: Part::Streams,
@@ -83,7 +84,7 @@ fn name_of(image: &[u8], place: usize) -> Result<&[u8], BadImage>
 #[tactic(auto, unfolding(byte_view::specs::Streams::stream_at))]
 fn stream_of(image: &[u8], at: usize, place: usize) -> Result<Stream<'_>, BadImage>
     requires { at ≤ length image.now }
-    ensures reads { Reads view_stream result (stream_at image.now at place) }
+    ensures reads { Reads refusal view_stream result (stream_at image.now at place) }
     ensures within { IfOk result (λ stream. IsWithin image.now (Some (view_range stream.range))) }
 {
     let part = Part::Streams;
@@ -142,7 +143,7 @@ fn streams_of(
     count: u16,
 ) -> Result<(Streams, usize), BadImage>
     requires { at ≤ length image.now }
-    ensures reads { Reads (λ x. (view_streams x.0, x.1)) result (streams_after image.now at first count) }
+    ensures reads { Reads refusal (λ x. (view_streams x.0, x.1)) result (streams_after image.now at first count) }
     ensures within { IfOk result (λ x. AreWithin image.now (view_streams x.0)) }
 {
     let mut all = Streams {
@@ -165,7 +166,7 @@ fn streams_of(
 #[tactic(auto, unfolding(byte_view::specs::Streams::streams))]
 pub fn read_streams(image: &[u8], at: usize) -> Result<(Range, Streams), BadImage>
     requires { at ≤ length image.now }
-    ensures reads { Reads (λ x. (view_range x.0, view_streams x.1)) result (streams image.now at) }
+    ensures reads { Reads refusal (λ x. (view_range x.0, view_streams x.1)) result (streams image.now at) }
     ensures within { IfOk result (λ x. IsWithin image.now (Some (view_range x.0)) × AreWithin image.now (view_streams x.1)) }
 {
     let (count, first) = root_of(image, at)?;

@@ -1,2 +1,1 @@
 pub mod FirstSection
-pub mod Listed

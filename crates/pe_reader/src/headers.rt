@@ -1,9 +1,10 @@
 //! The headers of a PE file, one after another, up to the range of the metadata.
 
 ghost use Rattle.std.specs.Prelude.{◌≡◌, ◌+◌, ◌<◌, ◌≤◌, ◌^◌, length, map, IfOk};
-ghost use Rattle.bound_base.specs.Image.{Reads};
+ghost use Rattle.bound_base.specs.Image.{refusal};
 ghost use Rattle.byte_view.specs.Headers as definition;
 ghost use Rattle.byte_view.specs.Numbers.{le};
+ghost use Rattle.byte_view.specs.Reading.{Reads};
 ghost use Rattle.pe_reader.specs.Pe.{section_of, headers_of};
 
 use crate::addresses::file_place;
@@ -58,7 +59,7 @@ pub struct Pe {
 /// CLI header's field of that range. `Memory` says that there is no memory for the sections.
 #[tactic(auto, unfolding(byte_view::specs::Headers::headers))]
 pub fn read_pe(alloc: Global, bytes: &[u8]) -> Result<Pe, BadImage>
-    ensures headers { Reads headers_of result (definition.headers bytes.now) }
+    ensures headers { Reads refusal headers_of result (definition.headers bytes.now) }
     ensures within { IfOk result (λ pe. pe.meta_at + pe.meta_size ≤ length bytes.now) }
 {
     let pe_at = signature_place(bytes)?;
@@ -80,7 +81,7 @@ pub fn read_pe(alloc: Global, bytes: &[u8]) -> Result<Pe, BadImage>
 /// Where the PE signature stands, which the MS-DOS header tells at 60 (II.25.2.1).
 #[tactic(auto, unfolding(byte_view::specs::Headers::signature_place))]
 fn signature_place(bytes: &[u8]) -> Result<usize, BadImage>
-    ensures place { Reads (λ x. x) result (definition.signature_place bytes.now) }
+    ensures place { Reads refusal (λ x. x) result (definition.signature_place bytes.now) }
     ensures small { IfOk result (λ pe_at. pe_at < 2 ^ 32) }
 {
     let magic = field16(Part::Mz, bytes, 0)?;
@@ -102,7 +103,7 @@ struct SectionTable {
 #[tactic(auto, unfolding(byte_view::specs::Headers::section_table))]
 fn section_table(bytes: &[u8], pe_at: usize) -> Result<SectionTable, BadImage>
     requires { pe_at < 2 ^ 32 }
-    ensures table { Reads (λ table. (table.count, table.at)) result (definition.section_table bytes.now pe_at) }
+    ensures table { Reads refusal (λ table. (table.count, table.at)) result (definition.section_table bytes.now pe_at) }
     ensures small { IfOk result (λ table. table.at < 2 ^ 33) }
 {
     must(pe_at + 24 <= bytes.len(), Part::CoffHeader, pe_at + 4)?;
@@ -117,7 +118,7 @@ fn section_table(bytes: &[u8], pe_at: usize) -> Result<SectionTable, BadImage>
 #[tactic(auto, unfolding(byte_view::specs::Headers::directory_count_place))]
 fn directory_count_place(bytes: &[u8], optional: usize) -> Result<usize, BadImage>
     requires { optional < 2 ^ 33 }
-    ensures place { Reads (λ x. x) result (definition.directory_count_place bytes.now optional) }
+    ensures place { Reads refusal (λ x. x) result (definition.directory_count_place bytes.now optional) }
     ensures small { IfOk result (λ at. at < 2 ^ 34) }
 {
     let magic = field16(Part::OptionalHeader, bytes, optional)?;
@@ -135,7 +136,7 @@ fn directory_count_place(bytes: &[u8], optional: usize) -> Result<usize, BadImag
 #[tactic(auto, unfolding(byte_view::specs::Headers::cli_directory))]
 fn cli_directory(bytes: &[u8], count_at: usize) -> Result<usize, BadImage>
     requires { count_at < 2 ^ 34 }
-    ensures place { Reads (λ x. x) result (definition.cli_directory bytes.now count_at) }
+    ensures place { Reads refusal (λ x. x) result (definition.cli_directory bytes.now count_at) }
     ensures within { IfOk result (λ at. at + 8 ≤ length bytes.now) }
 {
     let count = field32(Part::Directories, bytes, count_at)? as usize;
@@ -150,7 +151,7 @@ fn cli_directory(bytes: &[u8], count_at: usize) -> Result<usize, BadImage>
 #[tactic(auto, unfolding(byte_view::specs::Headers::cli_header_place))]
 fn cli_header_place(bytes: &[u8], sections: &Sections, directory: usize) -> Result<usize, BadImage>
     requires { directory + 8 ≤ length bytes.now }
-    ensures place { Reads (λ x. x) result
+    ensures place { Reads refusal (λ x. x) result
         (definition.cli_header_place bytes.now (map section_of sections.now) directory) }
     ensures within { IfOk result (λ at. at + 72 ≤ length bytes.now) }
 {
@@ -172,7 +173,7 @@ fn cli_header_place(bytes: &[u8], sections: &Sections, directory: usize) -> Resu
 #[tactic(auto, unfolding(byte_view::specs::Headers::metadata_place))]
 fn metadata_place(bytes: &[u8], sections: &Sections, cli_at: usize) -> Result<usize, BadImage>
     requires { cli_at + 72 ≤ length bytes.now }
-    ensures place { Reads (λ x. x) result
+    ensures place { Reads refusal (λ x. x) result
         (definition.metadata_place bytes.now (map section_of sections.now) cli_at) }
     ensures within { IfOk result (λ at. at + le bytes.now (cli_at + 12) 4 ≤ length bytes.now) }
 {

@@ -1,9 +1,9 @@
 //! The sections of a PE file.
 
 ghost use Rattle.std.specs.Prelude.{◌≡◌, ◌+◌, ◌*◌, ◌<◌, ◌≤◌, ◌^◌, map};
-ghost use Rattle.bound_base.specs.Image.{Reads};
+ghost use Rattle.bound_base.specs.Image.{refusal};
 ghost use Rattle.byte_view.specs.Headers as definition;
-ghost use Rattle.byte_view.specs.Reading.{listed};
+ghost use Rattle.byte_view.specs.Reading.{Reads, listed};
 ghost use Rattle.pe_reader.specs.Pe.{section_of};
 
 use crate::fields::{must, number32};
@@ -70,7 +70,7 @@ pub fn read_sections(
 ) -> Result<Sections, BadImage>
     requires signature { pe_at < 2 ^ 32 }
     requires table { at < 2 ^ 33 }
-    ensures { Reads (map section_of) result (definition.sections_of bytes.now pe_at count at) }
+    ensures { Reads refusal (map section_of) result (definition.sections_of bytes.now pe_at count at) }
 {
     must(count <= SECTION_LIMIT, Part::Sections, pe_at + 6)?;
     section_headers(alloc, bytes, count, at)
@@ -85,7 +85,7 @@ fn section_headers(
 ) -> Result<Sections, BadImage>
     requires few { count ≤ 96 }
     requires table { at < 2 ^ 33 }
-    ensures { Reads (map section_of) result
+    ensures { Reads refusal (map section_of) result
         (listed (λ k. definition.section_at bytes.now (at + 40 * k)) count) }
 {
     let mut sections = Sections::new(alloc);
@@ -99,7 +99,7 @@ fn section_headers(
 /// The section whose header is at `at`.
 fn section_at(bytes: &[u8], at: usize) -> Result<Section, BadImage>
     requires { at < 2 ^ 34 }
-    ensures { Reads section_of result (definition.section_at bytes.now at) }
+    ensures { Reads refusal section_of result (definition.section_at bytes.now at) }
 {
     must(at + HEADER_SIZE <= bytes.len(), Part::Sections, at)?;
     Ok(Section {

@@ -7,7 +7,7 @@ use Rattle.elf_reader.proofs.Steps.{each_none, each_more, each_refused}
 use Rattle.elf_reader.proofs.loads.without_tls.Goals as goal
 
 abbrev has_no_tls : List ℕ → ℕ → ℕ → Result ℕ Broken
-has_no_tls bytes start n = must (not (is_of_type pt_tls bytes (start + 56 * n))) parts.tls (start + 56 * n)
+has_no_tls bytes start n = must (not (is_of_type pt_tls bytes (start + 56 * n))) (parts.tls, start + 56 * n)
 
 pub loop-k-init : goal.loop-k-init
 loop-k-init c = each_none (has_no_tls c.args.bytes.now c.args.headers.start)

@@ -3,7 +3,9 @@ use Rattle.std.proofs.lemmas.Result.{err_from_is_err_and}
 use Rattle.byte_view.specs.Cells.{check_table, check_cells, checked_tables}
 use Rattle.meta_tables.specs.Shapes.{view_layout}
 use Rattle.meta_tables.specs.Cells.{metadata_of}
-use Rattle.meta_tables.proofs.Steps.{each_none, each_more, each_refused}
+use Rattle.byte_view.proofs.Reading.{each_none, each_more}
+use Rattle.byte_view.proofs.Refusals.{each_refused}
+use Rattle.bound_base.specs.Image.{refusal}
 use Rattle.meta_tables.proofs.Checked.{is_checked}
 use Rattle.meta_tables.proofs.cells.check_cells.Goals as goal
 
@@ -17,7 +19,7 @@ pub returns-in_err-check_table : goal.returns-in_err-check_table
 unfolding check_cells
 returns-in_err-check_table c =
     let p = err_from_is_err_and c.from_residual.result c.from_residual.ensures.1 in
-    rw (p.1, p.2) (each_refused c.in_err-check_table.field-0.0 (λ k. check_table (view_layout c.args.layout.now) (metadata_of c.args.heaps.now c.args.stream.now c.args.layout.now) (get_or checked_tables k 0)) c.loop-table.table-index 19 0 c.loop-table.invariant c.loop-table-test.true c.in_err-check_table.ensures)
+    rw (p.1, p.2) (each_refused refusal c.in_err-check_table.field-0.0 (λ k. check_table (view_layout c.args.layout.now) (metadata_of c.args.heaps.now c.args.stream.now c.args.layout.now) (get_or checked_tables k 0)) c.loop-table.table-index 19 0 c.loop-table.invariant c.loop-table-test.true c.in_err-check_table.ensures)
 
 pub loop-table-preserved : goal.loop-table-preserved
 loop-table-preserved c =

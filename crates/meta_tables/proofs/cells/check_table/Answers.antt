@@ -3,7 +3,7 @@ use Rattle.std.proofs.lemmas.Result.{err_from_is_err_and}
 use Rattle.byte_view.specs.Cells.{check_row}
 use Rattle.meta_tables.specs.Shapes.{view_layout}
 use Rattle.meta_tables.specs.Cells.{metadata_of}
-use Rattle.meta_tables.proofs.Steps.{each_none, each_more}
+use Rattle.byte_view.proofs.Reading.{each_none, each_more}
 use Rattle.meta_tables.proofs.RowCells.{row_lies}
 use Rattle.meta_tables.proofs.Checks.{row_check_is, table_passes, table_refused, columns_short, now_is}
 use Rattle.meta_tables.proofs.cells.check_table.Goals as goal

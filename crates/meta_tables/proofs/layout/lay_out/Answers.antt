@@ -1,7 +1,7 @@
 use Rattle.std.proofs.Common.{◌+◌, refl, sym, ◌∙◌, arith}
 use Rattle.byte_view.specs.Layout.{start_of}
 use Rattle.byte_view.proofs.Reading.{listed_fails}
-use Rattle.meta_tables.proofs.Steps.{listed_none, listed_more}
+use Rattle.byte_view.proofs.Reading.{listed_none, listed_more}
 use Rattle.meta_tables.proofs.Tables.{first_start, start_passes, start_fails}
 use Rattle.meta_tables.proofs.Starts.{end_is, shapes_more}
 use Rattle.meta_tables.proofs.layout.lay_out.Goals as goal

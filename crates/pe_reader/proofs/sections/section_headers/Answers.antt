@@ -1,10 +1,12 @@
 use Rattle.std.proofs.Common.{◌≡◌, ◌+◌, ◌*◌, ◌++◌, ◌∷◌, [], map, rules}
 use Rattle.std.proofs.lemmas.List.{map_push}
 use Rattle.std.proofs.lemmas.Result.{err_from_is_err_and}
+use Rattle.bound_base.specs.Image.{refusal}
 use Rattle.byte_view.specs.Headers as definition
 use Rattle.byte_view.specs.Reading.{listed}
+use Rattle.byte_view.proofs.Reading.{listed_more}
+use Rattle.byte_view.proofs.Refusals.{listed_refused}
 use Rattle.pe_reader.specs.Pe.{section_of}
-use Rattle.pe_reader.proofs.Listed.{listed_more, listed_stops}
 use Rattle.pe_reader.proofs.sections.section_headers.Goals as goal
 
 pub loop-k-init : goal.loop-k-init
@@ -14,7 +16,7 @@ loop-k-init c = search rules
 pub returns-in_err-section : goal.returns-in_err-section
 returns-in_err-section c =
     let p = err_from_is_err_and c.from_residual.result c.from_residual.ensures.1 in
-    rw (p.1, p.2) (listed_stops c.in_err-section.field-0.0 (λ k. definition.section_at c.args.bytes.now (c.args.at + 40 * k)) c.args.count c.loop-k.k (map section_of c.loop-k.sections) c.loop-k-test.true c.loop-k.invariant c.in_err-section.ensures)
+    rw (p.1, p.2) (listed_refused refusal c.in_err-section.field-0.0 (λ k. definition.section_at c.args.bytes.now (c.args.at + 40 * k)) c.loop-k.k c.args.count (map section_of c.loop-k.sections) c.loop-k.invariant c.loop-k-test.true c.in_err-section.ensures)
 
 pub loop-k-preserved : goal.loop-k-preserved
 loop-k-preserved c =
