@@ -1,0 +1,2 @@
+pub mod HostFunctions
+pub mod Laws
