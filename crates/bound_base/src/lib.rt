@@ -5,11 +5,14 @@
 mod ending;
 mod image;
 mod items;
+pub mod laws;
 mod limits;
 mod memory;
 mod names;
 mod outside;
+mod put;
 mod report;
+mod reserved;
 
 pub use ending::{Ending, status_of};
 pub use image::{BadImage, Part};
@@ -18,7 +21,9 @@ pub use limits::{Lane, Limits, Rights, standard_limits};
 pub use memory::NoMemory;
 pub use names::{escape, printed_names_differ, printed_names_show};
 pub use outside::{Sink, SinkFault, Store, StoreFault};
+pub use put::PutError;
 pub use report::{Lending, LogEntry, Report};
+pub use reserved::Reserved;
 
 #[cfg(test)]
 mod tests;
