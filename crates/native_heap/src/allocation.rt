@@ -21,8 +21,8 @@ const HEAP: Rights = Rights {
 /// A heap block of so many bytes, or 0 where there is no room. It never faults.
 #[tactic(auto, unfolding(crate::specs::Allocation::malloc))]
 pub fn malloc(memory: &mut Memory, size: u64) -> Result<u64, HeapBad>
-    ensures ok { IfOk result (λ answer. malloc memory.old size ≡ Some (answer, memory.new)) }
-    ensures err { IfErr result (λ bad. Refuses bad (malloc memory.old size)) }
+    ensures ok { IfOk result (λ answer. malloc memory.old.space size ≡ Some (answer, memory.new.space)) }
+    ensures err { IfErr result (λ bad. Refuses bad (malloc memory.old.space size)) }
     ensures unchanged { OnErr result (memory.new ≡ memory.old) }
 {
     match memory.place(size, HEAP, Kind::Heap) {
@@ -35,8 +35,8 @@ pub fn malloc(memory: &mut Memory, size: u64) -> Result<u64, HeapBad>
 /// A heap block of `count` times `size` bytes, or 0 where there is no room or that is no number of 64 bits. It never faults.
 #[tactic(auto, unfolding(crate::specs::Allocation::calloc))]
 pub fn calloc(memory: &mut Memory, count: u64, size: u64) -> Result<u64, HeapBad>
-    ensures ok { IfOk result (λ answer. calloc memory.old count size ≡ Some (answer, memory.new)) }
-    ensures err { IfErr result (λ bad. Refuses bad (calloc memory.old count size)) }
+    ensures ok { IfOk result (λ answer. calloc memory.old.space count size ≡ Some (answer, memory.new.space)) }
+    ensures err { IfErr result (λ bad. Refuses bad (calloc memory.old.space count size)) }
     ensures unchanged { OnErr result (memory.new ≡ memory.old) }
 {
     match count.checked_mul(size) {
@@ -49,8 +49,8 @@ pub fn calloc(memory: &mut Memory, count: u64, size: u64) -> Result<u64, HeapBad
 /// `malloc`. It faults where `p` isn't 0 or the base of a live heap block that can be read.
 #[tactic(auto, unfolding(crate::specs::Allocation::realloc))]
 pub fn realloc(alloc: Global, memory: &mut Memory, p: u64, size: u64) -> Result<u64, HeapBad>
-    ensures ok { IfOk result (λ answer. realloc memory.old p size ≡ Some (answer, memory.new)) }
-    ensures err { IfErr result (λ bad. Refuses bad (realloc memory.old p size)) }
+    ensures ok { IfOk result (λ answer. realloc memory.old.space p size ≡ Some (answer, memory.new.space)) }
+    ensures err { IfErr result (λ bad. Refuses bad (realloc memory.old.space p size)) }
     ensures unchanged { OnErr result (memory.new ≡ memory.old) }
 {
     if p == 0 {
@@ -70,11 +70,11 @@ pub fn realloc(alloc: Global, memory: &mut Memory, p: u64, size: u64) -> Result<
 /// Places a heap block with bytes at its front, and then ends the block at `p`. Where there is no room it answers 0, and that
 /// one lives on.
 fn replace(memory: &mut Memory, p: u64, size: u64, front: &[u8]) -> Result<u64, HeapBad>
-    requires sound { IsSound memory.old }
-    requires live { IsSome (block_with memory.old p) }
+    requires sound { IsSound memory.old.space }
+    requires live { IsSome (block_with memory.old.space p) }
     requires fits { length front.now ≤ size }
-    ensures ok { IfOk result (λ answer. moved memory.old p front.now (heap_placed memory.old size) ≡ Some (answer, memory.new)) }
-    ensures err { IfErr result (λ bad. Refuses bad (moved memory.old p front.now (heap_placed memory.old size))) }
+    ensures ok { IfOk result (λ answer. moved memory.old.space p front.now (heap_placed memory.old.space size) ≡ Some (answer, memory.new.space)) }
+    ensures err { IfErr result (λ bad. Refuses bad (moved memory.old.space p front.now (heap_placed memory.old.space size))) }
     ensures unchanged { OnErr result (memory.new ≡ memory.old) }
 {
     match memory.place(size, HEAP, Kind::Heap) {
@@ -91,8 +91,8 @@ fn replace(memory: &mut Memory, p: u64, size: u64, front: &[u8]) -> Result<u64, 
 /// Ends the heap block at `p`, and nothing at 0. It answers `p`. It faults where `p` isn't 0 or the base of a live heap block.
 #[tactic(auto, unfolding(crate::specs::Allocation::free))]
 pub fn free(memory: &mut Memory, p: u64) -> Result<u64, HeapBad>
-    ensures ok { IfOk result (λ answer. free memory.old p ≡ Some (answer, memory.new)) }
-    ensures err { IfErr result (λ bad. Refuses bad (free memory.old p)) }
+    ensures ok { IfOk result (λ answer. free memory.old.space p ≡ Some (answer, memory.new.space)) }
+    ensures err { IfErr result (λ bad. Refuses bad (free memory.old.space p)) }
     ensures unchanged { OnErr result (memory.new ≡ memory.old) }
 {
     if p == 0 {
@@ -106,7 +106,7 @@ pub fn free(memory: &mut Memory, p: u64) -> Result<u64, HeapBad>
 
 /// The size of the live heap block with a base.
 fn heap_size(memory: &Memory, p: u64) -> Option<u64>
-    ensures { result ≡ option_map (λ block. block.size) (heap_block memory.now p) }
+    ensures { result ≡ option_map (λ block. block.size) (heap_block memory.now.space p) }
 {
     match memory.block_at(p) {
         Some((size, _, Kind::Heap)) => Some(size),

@@ -19,8 +19,8 @@ pub fn memmove(
     from: u64,
     len: u64,
 ) -> Result<u64, HeapBad>
-    ensures ok { IfOk result (λ answer. memmove memory.old to from len ≡ Some (answer, memory.new)) }
-    ensures err { IfErr result (λ bad. Refuses bad (memmove memory.old to from len)) }
+    ensures ok { IfOk result (λ answer. memmove memory.old.space to from len ≡ Some (answer, memory.new.space)) }
+    ensures err { IfErr result (λ bad. Refuses bad (memmove memory.old.space to from len)) }
     ensures unchanged { OnErr result (memory.new ≡ memory.old) }
 {
     let Some(bytes) = memory.contents(from, len) else {
@@ -38,8 +38,8 @@ pub fn memmove(
 /// that is found before any memory is taken.
 #[tactic(auto, using(crate::proofs::Writing::writing), unfolding(crate::specs::Bytes::memset))]
 pub fn memset(alloc: Global, memory: &mut Memory, to: u64, c: u64, len: u64) -> Result<u64, HeapBad>
-    ensures ok { IfOk result (λ answer. memset memory.old to c len ≡ Some (answer, memory.new)) }
-    ensures err { IfErr result (λ bad. Refuses bad (memset memory.old to c len)) }
+    ensures ok { IfOk result (λ answer. memset memory.old.space to c len ≡ Some (answer, memory.new.space)) }
+    ensures err { IfErr result (λ bad. Refuses bad (memset memory.old.space to c len)) }
     ensures unchanged { OnErr result (memory.new ≡ memory.old) }
 {
     if !memory.holds(to, len, true) {
@@ -53,8 +53,8 @@ pub fn memset(alloc: Global, memory: &mut Memory, to: u64, c: u64, len: u64) -> 
 /// Compares two ranges of `len` bytes by the first bytes that differ. It faults where one of them can't be read.
 #[tactic(auto, unfolding(crate::specs::Bytes::memcmp))]
 pub fn memcmp(memory: &Memory, a: u64, b: u64, len: u64) -> Result<u64, HeapBad>
-    ensures ok { IfOk result (λ answer. memcmp memory.now a b len ≡ Some (answer, memory.now)) }
-    ensures err { IfErr result (λ bad. Refuses bad (memcmp memory.now a b len)) }
+    ensures ok { IfOk result (λ answer. memcmp memory.now.space a b len ≡ Some (answer, memory.now.space)) }
+    ensures err { IfErr result (λ bad. Refuses bad (memcmp memory.now.space a b len)) }
 {
     match (memory.contents(a, len), memory.contents(b, len)) {
         (Some(left), Some(right)) => Ok(sign(left.cmp(right))),

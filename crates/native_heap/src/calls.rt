@@ -38,8 +38,8 @@ pub fn call(
     errno: u64,
 ) -> Result<(), HeapBad>
     requires { k < 13 }
-    ensures ok { OnOk result (called k regs.old memory.old errno ≡ Some (regs.new, memory.new)) }
-    ensures err { IfErr result (λ bad. Refuses bad (called k regs.old memory.old errno)) }
+    ensures ok { OnOk result (called k regs.old memory.old.space errno ≡ Some (regs.new, memory.new.space)) }
+    ensures err { IfErr result (λ bad. Refuses bad (called k regs.old memory.old.space errno)) }
     ensures registers { OnErr result (regs.new ≡ regs.old) }
     ensures memory { OnErr result (memory.new ≡ memory.old) }
 {
@@ -62,8 +62,8 @@ fn answer(
     memory: &mut Memory,
     errno: u64,
 ) -> Result<u64, HeapBad>
-    ensures ok { IfOk result (λ answer. outcome function a b c memory.old errno ≡ Some (answer, memory.new)) }
-    ensures err { IfErr result (λ bad. Refuses bad (outcome function a b c memory.old errno)) }
+    ensures ok { IfOk result (λ answer. outcome function a b c memory.old.space errno ≡ Some (answer, memory.new.space)) }
+    ensures err { IfErr result (λ bad. Refuses bad (outcome function a b c memory.old.space errno)) }
     ensures unchanged { OnErr result (memory.new ≡ memory.old) }
 {
     match function {

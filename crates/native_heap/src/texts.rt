@@ -14,8 +14,8 @@ use std::alloc::Global;
 /// read.
 #[tactic(auto, unfolding(crate::specs::Texts::strlen))]
 pub fn strlen(memory: &Memory, s: u64) -> Result<u64, HeapBad>
-    ensures ok { IfOk result (λ answer. strlen memory.now s ≡ Some (answer, memory.now)) }
-    ensures err { IfErr result (λ bad. Refuses bad (strlen memory.now s)) }
+    ensures ok { IfOk result (λ answer. strlen memory.now.space s ≡ Some (answer, memory.now.space)) }
+    ensures err { IfErr result (λ bad. Refuses bad (strlen memory.now.space s)) }
 {
     match text(memory, s) {
         Some(text) => Ok(text.len() as u64),
@@ -27,8 +27,8 @@ pub fn strlen(memory: &Memory, s: u64) -> Result<u64, HeapBad>
 /// be written; that is found before any memory is taken.
 #[tactic(auto, using(crate::proofs::Writing::writing), unfolding(crate::specs::Texts::strcpy))]
 pub fn strcpy(alloc: Global, memory: &mut Memory, to: u64, from: u64) -> Result<u64, HeapBad>
-    ensures ok { IfOk result (λ answer. strcpy memory.old to from ≡ Some (answer, memory.new)) }
-    ensures err { IfErr result (λ bad. Refuses bad (strcpy memory.old to from)) }
+    ensures ok { IfOk result (λ answer. strcpy memory.old.space to from ≡ Some (answer, memory.new.space)) }
+    ensures err { IfErr result (λ bad. Refuses bad (strcpy memory.old.space to from)) }
     ensures unchanged { OnErr result (memory.new ≡ memory.old) }
 {
     let Some(text) = text(memory, from) else {
@@ -47,8 +47,8 @@ pub fn strcpy(alloc: Global, memory: &mut Memory, to: u64, from: u64) -> Result<
 /// Compares two texts by the first bytes that differ. It goes byte by byte, and faults where one that is needed can't be read.
 #[tactic(auto, unfolding(crate::specs::Texts::strcmp))]
 pub fn strcmp(memory: &Memory, a: u64, b: u64) -> Result<u64, HeapBad>
-    ensures ok { IfOk result (λ answer. strcmp memory.now a b ≡ Some (answer, memory.now)) }
-    ensures err { IfErr result (λ bad. Refuses bad (strcmp memory.now a b)) }
+    ensures ok { IfOk result (λ answer. strcmp memory.now.space a b ≡ Some (answer, memory.now.space)) }
+    ensures err { IfErr result (λ bad. Refuses bad (strcmp memory.now.space a b)) }
 {
     let mut left = a;
     let mut right = b;
@@ -70,7 +70,7 @@ pub fn strcmp(memory: &Memory, a: u64, b: u64) -> Result<u64, HeapBad>
 /// The text at an address, without its zero: it stands in one block. None where that has no zero from there on, or can't be read.
 #[tactic(auto, unfolding(crate::specs::Texts::text_at))]
 fn text(memory: &Memory, s: u64) -> Option<&[u8]>
-    ensures { option_copied result ≡ text_at memory.now s }
+    ensures { option_copied result ≡ text_at memory.now.space s }
 {
     let rest = memory.rest(s)?;
     let len = zero_in(rest)?;
@@ -87,7 +87,7 @@ fn zero_in(bytes: &[u8]) -> Option<usize>
 
 /// The byte at an address, None where it can't be read: the first of those that are readable from there on.
 fn byte(memory: &Memory, addr: u64) -> Option<u8>
-    ensures value { MatchOption result (readable_from memory.now addr ≡ []) (λ byte. readable_from memory.now addr ≡ byte ∷ readable_from memory.now (addr + 1)) }
+    ensures value { MatchOption result (readable_from memory.now.space addr ≡ []) (λ byte. readable_from memory.now.space addr ≡ byte ∷ readable_from memory.now.space (addr + 1)) }
     ensures low { OnSome result (addr < 2 ^ 46) }
 {
     memory.blocks_lie_apart();

@@ -16,7 +16,7 @@ addw_block = record {
 }
 
 abbrev pub addw_memory : AddressSpace
-addw_memory = record { limit = 4; next = 65568; edge = 65540; blocks = addw_block ∷ []; written = 0 }
+addw_memory = record { limit = 4; next = 65568; edge = 65540; blocks = addw_block ∷ [] }
 
 -- at that instruction, with two words in a0 and a1
 abbrev pub at_addw : ℕ → ℕ → State

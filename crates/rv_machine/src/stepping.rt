@@ -23,8 +23,8 @@ const LOWEST: u64 = 65_536;
 /// may be misaligned. FENCE has no effect.
 #[tactic(auto, unfolding(crate::specs::Machine::rv_step))]
 pub fn step(regs: &mut Regs, memory: &mut Memory) -> Step
-    ensures outcome { result ≡ (rv_step (state_of regs.old memory.old)).0 }
-    ensures state { state_of regs.new memory.new ≡ (rv_step (state_of regs.old memory.old)).1 }
+    ensures outcome { result ≡ (rv_step (state_of regs.old memory.old.space)).0 }
+    ensures state { state_of regs.new memory.new.space ≡ (rv_step (state_of regs.old memory.old.space)).1 }
 {
     if regs.pc < LOWEST {
         return Step::At(regs.pc);
@@ -40,8 +40,8 @@ pub fn step(regs: &mut Regs, memory: &mut Memory) -> Step
 
 /// Does what an instruction does, or nothing where that faults.
 fn apply(effect: Effect, regs: &mut Regs, memory: &mut Memory) -> Step
-    ensures outcome { result ≡ (applied (state_of regs.old memory.old) effect).0 }
-    ensures state { state_of regs.new memory.new ≡ (applied (state_of regs.old memory.old) effect).1 }
+    ensures outcome { result ≡ (applied (state_of regs.old memory.old.space) effect).0 }
+    ensures state { state_of regs.new memory.new.space ≡ (applied (state_of regs.old memory.old.space) effect).1 }
 {
     match effect {
         Effect::Set(rd, value) => go_on_with(regs, rd, value),
