@@ -1,8 +1,8 @@
 -- Laws of the calling convention.
-use Rattle.std.specs.Prelude.{◌≡◌, ◌⊎◌, ℕ, ◌*◌, ◌%◌, ◌^◌, Bool, true, false, IsTrue}
-use Rattle.lp64_convention.specs.Places.{word_size, place_of}
+use Rattle.std.specs.Prelude.{◌≡◌, ◌⊎◌, ℕ, ◌+◌, ◌*◌, ◌%◌, ◌^◌, ◌<◌, ◌≤◌, Bool, true, false, IsTrue, Some, None, Contains}
+use Rattle.lp64_convention.specs.Places.{word_size, argument_registers, first_argument_register, place_of, register_of, preserved_registers}
 use Rattle.lp64_convention.specs.Widening.{is_integer_size, signed_of, integer_of, widened}
-use Rattle.lp64_convention.specs.declared.places.Slot.TheVariants.{Stack}
+use Rattle.lp64_convention.specs.declared.places.Slot.TheVariants.{Reg, Stack}
 
 -- two words of one place are one word
 abbrev pub WordsHaveOwnPlaces : Type 0
@@ -35,3 +35,15 @@ UnsignedWordsAreSignExtended = (bits : ℕ) → widened bits 4 false ≡ widened
 -- an integer of 8 or 16 bits without a sign is its own number
 abbrev pub NarrowUnsignedIntegersReadBack : Type 0
 NarrowUnsignedIntegersReadBack = (bits width : ℕ) → (width ≡ 1) ⊎ (width ≡ 2) → widened bits width false ≡ bits % 2 ^ (8 * width)
+
+-- the first eight words are passed in a0 to a7, in order, and no further word in a register
+pub record WordsHaveRegisters (k : ℕ) : Type 0 where
+  pub passed : k < argument_registers → register_of (place_of k) ≡ Some (first_argument_register + k)
+  pub others : argument_registers ≤ k → register_of (place_of k) ≡ None
+
+abbrev pub FirstWordsHaveRegisters : Type 0
+FirstWordsHaveRegisters = (k : ℕ) → WordsHaveRegisters k
+
+-- no word is passed in a register that the function preserves
+abbrev pub PreservedRegistersHaveNoWord : Type 0
+PreservedRegistersHaveNoWord = (k register : ℕ) → place_of k ≡ Reg register → ¬ Contains preserved_registers register

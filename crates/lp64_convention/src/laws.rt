@@ -1,6 +1,6 @@
 //! Laws of the calling convention: each function's contract is one.
 
-ghost use Rattle.lp64_convention.specs.Laws.{WordsHaveOwnPlaces, StackWordsAreAligned, WidenedOnceIsWide, OnlyLowBytesMatter, SignedIntegersReadBack, UnsignedWordsAreSignExtended, NarrowUnsignedIntegersReadBack};
+ghost use Rattle.lp64_convention.specs.Laws.{WordsHaveOwnPlaces, StackWordsAreAligned, FirstWordsHaveRegisters, PreservedRegistersHaveNoWord, WidenedOnceIsWide, OnlyLowBytesMatter, SignedIntegersReadBack, UnsignedWordsAreSignExtended, NarrowUnsignedIntegersReadBack};
 
 /// No two words of the arguments have one place.
 pub fn words_have_own_places()
@@ -10,6 +10,16 @@ pub fn words_have_own_places()
 /// Each word on the stack stands at a multiple of 8 bytes.
 pub fn stack_words_are_aligned()
     ensures { StackWordsAreAligned }
+{}
+
+/// The first eight words are passed in `a0` to `a7`, in order, and no further word in a register.
+pub fn first_words_have_registers()
+    ensures { FirstWordsHaveRegisters }
+{}
+
+/// No word is passed in a register that the function leaves as it was.
+pub fn preserved_registers_have_no_word()
+    ensures { PreservedRegistersHaveNoWord }
 {}
 
 /// To widen what is widened changes nothing.

@@ -5,7 +5,7 @@ pub mod laws;
 mod places;
 mod widening;
 
-pub use places::{Slot, word_place, words_of};
+pub use places::{PRESERVED_REGISTERS, Slot, is_preserved, word_place, words_of};
 pub use widening::widen;
 
 #[cfg(test)]

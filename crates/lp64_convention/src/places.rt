@@ -1,7 +1,7 @@
 //! The words of the arguments, and where each is passed.
 
-ghost use Rattle.std.specs.Prelude.{◌≡◌, ◌<◌, ◌^◌};
-ghost use Rattle.lp64_convention.specs.Places.{word_count, place_of};
+ghost use Rattle.std.specs.Prelude.{◌≡◌, ◌<◌, ◌^◌, IsTrue, ◌↔◌, Contains};
+ghost use Rattle.lp64_convention.specs.Places.{word_count, place_of, preserved_registers};
 
 /// Where a word of the arguments is passed.
 #[derive(Clone, Copy, Debug, PartialEq, Eq)]
@@ -31,4 +31,21 @@ pub fn word_place(k: u64) -> Slot
     } else {
         Slot::Stack(8 * (k - 8))
     }
+}
+
+/// The registers that a function leaves to its caller as they were, by their numbers: `sp`, `gp`, `tp` and `s0` to
+/// `s11` (RISC-V ELF psABI, Integer Register Convention).
+pub const PRESERVED_REGISTERS: [u8; 15] = [2, 3, 4, 8, 9, 18, 19, 20, 21, 22, 23, 24, 25, 26, 27];
+
+/// Whether a function leaves the integer register of this number to its caller as it was.
+pub fn is_preserved(register: u8) -> bool
+    ensures { IsTrue result ↔ Contains preserved_registers register }
+{
+    is_among(&PRESERVED_REGISTERS, register)
+}
+
+fn is_among(registers: &[u8], register: u8) -> bool
+    ensures { IsTrue result ↔ Contains registers.now register }
+{
+    registers.contains(&register)
 }

@@ -61,18 +61,23 @@ impl<R: Files + Drop> Store for FileStore<R> {
     }
 }
 
-/// Fills `into` from the offset on, up to the end of the file, and answers how many bytes it read.
+/// Fills `into` from the offset on, up to the end of the file, and answers how many bytes it read. A read that was
+/// interrupted is done again; after 2^64 - 1 reads it fails.
 fn read_at<F: Read + Seek>(file: &mut F, at: u64, into: &mut [u8]) -> io::Result<usize>
     ensures { IfOk result (λ count. count ≤ length into.old) }
 {
     file.seek(SeekFrom::Start(at))?;
     let mut filled = 0;
-    while filled < into.len() {
-        let count = file.read(&mut into[filled..])?;
-        if count == 0 {
-            break;
+    'reads: for _ in 0..u64::MAX {
+        if filled == into.len() {
+            return Ok(filled);
         }
-        filled += count;
+        match file.read(&mut into[filled..]) {
+            Ok(0) => return Ok(filled),
+            Ok(count) => filled += count,
+            Err(error) if error.kind() == ErrorKind::Interrupted => {}
+            Err(error) => return Err(error),
+        }
     }
-    Ok(filled)
+    Err(io::Error::from(ErrorKind::Interrupted))
 }

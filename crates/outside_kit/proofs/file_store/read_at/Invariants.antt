@@ -1,8 +1,5 @@
-use Rattle.std.proofs.Common.{length, ◌-◌, ◌≤◌}
+use Rattle.std.proofs.Common.{length, ◌≤◌}
 use Rattle.outside_kit.proofs.file_store.read_at.Given as goal
 
-abbrev pub invariant-loop-filled : goal.invariant-loop-filled
-invariant-loop-filled g l = l.filled ≤ length l.into
-
-abbrev pub decreases-loop-filled : goal.decreases-loop-filled
-decreases-loop-filled g l = length l.initial.into - l.filled
+abbrev pub invariant-reads : goal.invariant-reads
+invariant-reads g l = l.filled ≤ length l.into
