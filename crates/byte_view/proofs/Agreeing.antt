@@ -5,7 +5,8 @@ use Rattle.std.specs.List.{range_with_len}
 use Rattle.std.specs.Option.{ok_or}
 use Rattle.byte_view.specs.Columns.{Column, columns, width, is_table, table_numbers}
 use Rattle.byte_view.specs.Metadata.{cell_place, cell_value, row_numbers, row_at, tables_in}
-use Rattle.byte_view.specs.Assembly.{metadata_in, assembly}
+use Rattle.byte_view.specs.Assembly.{metadata_in, metadata, assembly}
+use Rattle.byte_view.proofs.Images.{assembly_is}
 use Rattle.byte_view.specs.Laws.{LieApart, HeadersAndMetadataDecide}
 use Rattle.byte_view.specs.Layout.{Layout, is_present, count_place, row_count, start_of, layout}
 use Rattle.std.proofs.lemmas.List.{drop-drop, drop-take, length-take-le}
@@ -14,7 +15,7 @@ use Rattle.byte_view.specs.Reading.{Broken, must, field, field_where, listed, ea
 use Rattle.byte_view.specs.Parts as parts
 use Rattle.byte_view.specs.Heaps.{text_at}
 use Rattle.byte_view.specs.Headers.{Headers, headers}
-use Rattle.byte_view.specs.Streams.{Range, root, name_at, stream_at, streams_after, streams, heap_of}
+use Rattle.byte_view.specs.Streams.{Range, root, stream_name, stream_at, streams_after, streams, heap_of}
 use Rattle.byte_view.proofs.Reading.{read_or_refused, bind_read, bind_err, bind_same, bind_then, same_read, listed_same}
 use Rattle.byte_view.proofs.Tables.{tables_lie_apart}
 use Rattle.byte_view.proofs.Within.{metadata_within, LiesIn, streams_after_lie, streams_lie}
@@ -85,8 +86,8 @@ root_before image at x e =
     let same : at + 16 + len + 4 ≡ x.1 = ap (λ (x : ℕ × ℕ). x.1) (same_read _ x e3) in
     omega arith)))
 
-pub name_same : (at place : ℕ) (a b : List ℕ) → AgreeFrom at a b → at ≤ place → name_at a place ≡ name_at b place
-unfolding name_at
+pub name_same : (at place : ℕ) (a b : List ℕ) → AgreeFrom at a b → at ≤ place → stream_name a place ≡ stream_name b place
+unfolding stream_name
 name_same at place a b same h =
     bind_same _ _ _ _ (ap (λ (o : Option (List ℕ)). ok_or o (parts.streams, place)) (text_same at place a b same h)) (λ name _. rw same.size refl)
 
@@ -187,7 +188,6 @@ metadata_same at a b same =
 
 -- the metadata of two files that have the same bytes there
 pub assembly_same : (a b : List ℕ) (h : Headers) → headers a ≡ Ok h → headers b ≡ Ok h → take h.meta_size (drop h.meta_at a) ≡ take h.meta_size (drop h.meta_at b) → assembly a ≡ assembly b
-unfolding assembly
 assembly_same a b h first second e =
     let end : ℕ = h.meta_at + h.meta_size in
     let first_size : length (take end a) ≡ end = length-take-le end a (metadata_within a h first) in
@@ -196,12 +196,13 @@ assembly_same a b h first second e =
       rest = drop-take h.meta_at h.meta_size a ∙ e ∙ sym (drop-take h.meta_at h.meta_size b);
       size = first_size ∙ sym second_size;
     } in
-    bind_read (headers a) _ h first ∙ metadata_same h.meta_at (take end a) (take end b) agree ∙ sym (bind_read (headers b) _ h second)
+    assembly_is a ∙ bind_read (headers a) _ h first ∙ metadata_same h.meta_at (take end a) (take end b) agree
+    ∙ sym (bind_read (headers b) _ h second) ∙ sym (assembly_is b)
 
 pub headers_and_metadata_decide : HeadersAndMetadataDecide
-unfolding assembly
 headers_and_metadata_decide a b same e =
     elim (read_or_refused (headers a)) [
       | inl read ↦ assembly_same a b read.0 read.1 (sym same ∙ read.1) (e read.0 read.1)
-      | inr refused ↦ bind_err (headers a) _ refused.0 refused.1 ∙ sym (bind_err (headers b) _ refused.0 (sym same ∙ refused.1))
+      | inr refused ↦ (assembly_is a ∙ bind_err (headers a) _ refused.0 refused.1
+          ∙ sym (bind_err (headers b) _ refused.0 (sym same ∙ refused.1)) ∙ sym (assembly_is b))
     ]

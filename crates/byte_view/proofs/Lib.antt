@@ -1,6 +1,7 @@
 pub mod Reading
 pub mod Refusals
 pub mod Worked
+pub mod Images
 pub mod Tables
 pub mod Sound
 pub mod Within

@@ -1,5 +1,5 @@
 -- The cells of the checked tables of a file that is read.
-use Rattle.std.proofs.Common.{◌≡◌, ℕ, ◌+◌, ◌*◌, ◌/◌, ◌%◌, ◌^◌, ◌<◌, ◌≤◌, true, ◌||◌, ◌&&◌, ◌⊎◌, List, [], ◌∷◌, length, take, Option, Some, None, Ok, refl, ◌∙◌, subst, inl, inr, arith}
+use Rattle.std.proofs.Common.{◌≡◌, ℕ, ◌+◌, ◌*◌, ◌/◌, ◌%◌, ◌^◌, ◌<◌, ◌≤◌, true, ◌||◌, ◌&&◌, ◌⊎◌, List, [], ◌∷◌, length, take, Option, Some, None, Ok, refl, sym, ◌∙◌, subst, inl, inr, arith}
 use Rattle.std.specs.Prelude.{nat_le, nat_lt, ◌==◌, slice_index, slice_get, Contains}
 use Rattle.std.proofs.lemmas.Bool.{ltb-true, leb-true, eqb-true, or_cases, and_parts}
 use Rattle.std.proofs.lemmas.Option.{slice_get_within}
@@ -15,6 +15,7 @@ use Rattle.byte_view.specs.Cells.{checked_tables, rows_in, is_row_of, is_sound, 
 use Rattle.byte_view.specs.Assembly.{metadata_in, assembly}
 use Rattle.byte_view.specs.Laws.{CheckedCellsAreSound, NamesRow, MayHold, CheckedCellsNameWhatIsThere, ImportsAreSound, TypesHaveRuns}
 use Rattle.byte_view.proofs.Reading.{bind_then, same_read, must_ok, each_ok}
+use Rattle.byte_view.proofs.Images.{assembly_is}
 
 -- the parts of an accepted file
 pub record Accepted (bytes : List ℕ) (m : Metadata) : Type 0 where
@@ -22,16 +23,15 @@ pub record Accepted (bytes : List ℕ) (m : Metadata) : Type 0 where
   pub read : headers bytes ≡ Ok headers_of
   pub found : Range × Streams
   pub streams_read : streams (take (headers_of.meta_at + headers_of.meta_size) bytes) headers_of.meta_at ≡ Ok found
-  pub places : Layout
-  pub laid : layout (take found.0.end (take (headers_of.meta_at + headers_of.meta_size) bytes)) found.0.start ≡ Ok places
-  pub rows : m.tables ≡ tables_in (take found.0.end (take (headers_of.meta_at + headers_of.meta_size) bytes)) places
+  pub laid : layout (take found.0.end (take (headers_of.meta_at + headers_of.meta_size) bytes)) found.0.start ≡ Ok m.layout
+  pub rows : m.tables ≡ tables_in (take found.0.end (take (headers_of.meta_at + headers_of.meta_size) bytes)) m.layout
   pub answer : ℕ
-  pub checked : check_cells places m ≡ Ok answer
+  pub checked : check_cells m.layout m ≡ Ok answer
 
 pub accepted : (bytes : List ℕ) (m : Metadata) → assembly bytes ≡ Ok m → Accepted bytes m
-unfolding assembly metadata_in
+unfolding metadata_in
 accepted bytes m e =
-    bind_then (headers bytes) _ m e (λ h read e1.
+    bind_then (headers bytes) _ m (sym (assembly_is bytes) ∙ e) (λ h read e1.
     let image : List ℕ = take (h.meta_at + h.meta_size) bytes in
     bind_then (streams image h.meta_at) _ m e1 (λ found found_read e2.
     let stream : List ℕ = take found.0.end image in
@@ -41,6 +41,7 @@ accepted bytes m e =
       user_strings = heap_of image found.1.user_strings;
       guids = heap_of image found.1.guids;
       blobs = heap_of image found.1.blobs;
+      layout = places;
       tables = tables_in stream places;
     } in
     bind_then (check_cells places made) _ m e3 (λ n checked e4.
@@ -49,7 +50,6 @@ accepted bytes m e =
       read = read;
       found = found;
       streams_read = found_read;
-      places = places;
       laid = laid;
       rows = refl;
       answer = n;
@@ -75,8 +75,8 @@ table_passes l m answer table e among =
 pub checked_cells_are_sound : CheckedCellsAreSound
 checked_cells_are_sound bytes m e table row column among within_rows within_columns =
     let a = accepted bytes m e in
-    let tested = table_passes a.places m a.answer table a.checked among in
-    cell_passes a.places m table row column tested.0 tested.1 within_rows within_columns
+    let tested = table_passes m.layout m a.answer table a.checked among in
+    cell_passes m.layout m table row column tested.0 tested.1 within_rows within_columns
 
 -- what the test of a column says
 names_row : (m : Metadata) (tag : Option (Option ℕ)) (row : ℕ) → is_row_of m tag row ≡ true → NamesRow m tag row

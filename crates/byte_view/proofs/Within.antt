@@ -10,7 +10,7 @@ use Rattle.byte_view.specs.Numbers.{le}
 use Rattle.byte_view.specs.Reading.{field_where}
 use Rattle.byte_view.specs.Parts as parts
 use Rattle.byte_view.specs.Headers.{Section, Headers, holds_range, raw_place, file_place, signature_place, section_table, directory_count_place, cli_directory, sections_of, cli_header_place, metadata_place, headers}
-use Rattle.byte_view.specs.Streams.{Range, Streams, Stream, root, name_at, stream_at, first_of, with_stream, streams_after, streams}
+use Rattle.byte_view.specs.Streams.{Range, Streams, Stream, root, stream_name, stream_at, first_of, with_stream, streams_after, streams}
 use Rattle.byte_view.specs.Layout.{layout}
 use Rattle.byte_view.specs.Laws.{TablesLieInMetadata}
 use Rattle.byte_view.proofs.Reading.{bind_then, same_read, field_where_ok, ok_or_ok}
@@ -70,7 +70,7 @@ unfolding stream_at
 stream_lies image at place x e =
     bind_then (field_where (λ offset. nat_le (at + offset) (length image)) parts.streams image place 4) _ x e (λ offset _ e1.
     bind_then (field_where (λ size. nat_le (at + offset + size) (length image)) parts.streams image (place + 4) 4) _ x e1 (λ size size_read e2.
-    bind_then (name_at image (place + 8)) _ x e2 (λ name _ e3.
+    bind_then (stream_name image (place + 8)) _ x e2 (λ name _ e3.
     let passes = field_where_ok (λ size. nat_le (at + offset + size) (length image)) parts.streams image (place + 4) 4 size size_read in
     let fits : at + offset + size ≤ length image = leb-true (at + offset + size) (length image) passes.2 in
     subst (λ (x : Stream). LiesIn at (length image) (Some x.range) × (place ≤ x.next)) (same_read _ x e3) ((omega arith, omega arith, fits), omega arith))))
@@ -119,7 +119,7 @@ tables_lie_in_metadata bytes m e =
     let lies = (streams_lie (take (h.meta_at + h.meta_size) bytes) h.meta_at a.found a.streams_read).0 in
     let ends : a.found.0.end ≤ h.meta_at + h.meta_size = omega (arith, lies.2, size) in
     let cut : take a.found.0.end (take (h.meta_at + h.meta_size) bytes) ≡ take a.found.0.end bytes = take-take a.found.0.end (h.meta_at + h.meta_size) bytes ends in
-    let laid : layout (take a.found.0.end bytes) a.found.0.start ≡ Ok a.places = rw cut at a.laid in
+    let laid : layout (take a.found.0.end bytes) a.found.0.start ≡ Ok m.layout = rw cut at a.laid in
     record {
       headers_of = h;
       read = a.read;
@@ -128,8 +128,7 @@ tables_lie_in_metadata bytes m e =
       end = a.found.0.end;
       begins = lies.0;
       ends = ends;
-      places = a.places;
       laid = laid;
-      apart = tables_lie_apart (take a.found.0.end bytes) a.found.0.start a.places laid;
+      apart = tables_lie_apart (take a.found.0.end bytes) a.found.0.start m.layout laid;
       rows = rw cut at a.rows;
     }

@@ -72,7 +72,14 @@ empty_file = headers_before 60 ++ root_before 1 ++ u32 36 ++ u32 24 ++ codes "#~
 abbrev pub EmptyFile : Type 0
 EmptyFile =
     assembly empty_file
-    ≡ Ok (record { strings = []; user_strings = []; guids = []; blobs = []; tables = replicate 45 [] })
+    ≡ Ok (record {
+      strings = [];
+      user_strings = [];
+      guids = [];
+      blobs = [];
+      layout = record { heap_sizes = 0; rows = replicate 45 0; starts = replicate 45 476 };
+      tables = replicate 45 [];
+    })
 
 -- a file with the one row of Module, whose name `m` stands at 1 in `#Strings`
 abbrev pub module_file : List ℕ
@@ -92,6 +99,7 @@ ModuleFile =
       user_strings = [];
       guids = [];
       blobs = [];
+      layout = record { heap_sizes = 0; rows = 1 ∷ replicate 44 0; starts = 500 ∷ replicate 44 510 };
       tables = ((0 ∷ 1 ∷ 0 ∷ 0 ∷ 0 ∷ 0 ∷ 0 ∷ 0 ∷ 0 ∷ []) ∷ []) ∷ replicate 44 [];
     })
 

@@ -3,6 +3,7 @@ use Rattle.std.specs.Prelude.{◌≡◌, ◌<◌, ◌≤◌, ◌⊎◌, ℕ, ◌
 use Rattle.byte_view.specs.Numbers.{le}
 use Rattle.byte_view.specs.Headers.{Headers, headers}
 use Rattle.byte_view.specs.Columns.{Column, Number, StringOffset, GuidNumber, BlobOffset, RowOf, RunOf, CodedRow, columns, row_width, table_numbers}
+use Rattle.byte_view.specs.TableNames.{type_def, type_def_field_list, type_def_method_list, field, method_def, module_ref, impl_map, impl_map_member_forwarded, impl_map_import_name, impl_map_import_scope}
 use Rattle.byte_view.specs.Layout.{Layout, layout}
 use Rattle.byte_view.specs.Metadata.{Metadata, tables_in}
 use Rattle.byte_view.specs.Cells.{checked_tables, rows_in, value_in, value_before, is_sound_in}
@@ -34,10 +35,9 @@ pub record TablesOf (bytes : List ℕ) (m : Metadata) : Type 0 where
   pub end : ℕ
   pub begins : headers_of.meta_at ≤ start
   pub ends : end ≤ headers_of.meta_at + headers_of.meta_size
-  pub places : Layout
-  pub laid : layout (take end bytes) start ≡ Ok places
-  pub apart : LieApart (take end bytes) start places
-  pub rows : m.tables ≡ tables_in (take end bytes) places
+  pub laid : layout (take end bytes) start ≡ Ok m.layout
+  pub apart : LieApart (take end bytes) start m.layout
+  pub rows : m.tables ≡ tables_in (take end bytes) m.layout
 
 abbrev pub TablesLieInMetadata : Type 0
 TablesLieInMetadata = (bytes : List ℕ) (m : Metadata) → assembly bytes ≡ Ok m → TablesOf bytes m
@@ -85,24 +85,42 @@ CheckedCellsNameWhatIsThere =
 -- An import, by its row of ImplMap: its scope is a row of ModuleRef or 0, its name an offset in `#Strings` or 0, and the
 -- member that it stands for 0, a row of Field (tag 0) or a row of MethodDef (tag 1).
 pub record IsSoundImport (m : Metadata) (row : ℕ) : Type 0 where
-  pub scope : value_in m 0x1C row 3 ≤ rows_in m 0x1A
-  pub name : (value_in m 0x1C row 2 ≡ 0) ⊎ (value_in m 0x1C row 2 < length m.strings)
-  pub field : value_in m 0x1C row 1 % 2 ≡ 0 → value_in m 0x1C row 1 / 2 ≤ rows_in m 0x04
-  pub method : value_in m 0x1C row 1 % 2 ≡ 1 → (1 ≤ value_in m 0x1C row 1 / 2) × (value_in m 0x1C row 1 / 2 ≤ rows_in m 0x06)
+  pub scope : value_in m impl_map row impl_map_import_scope ≤ rows_in m module_ref
+  pub name : (value_in m impl_map row impl_map_import_name ≡ 0)
+      ⊎ (value_in m impl_map row impl_map_import_name < length m.strings)
+  pub field : value_in m impl_map row impl_map_member_forwarded % 2 ≡ 0
+      → value_in m impl_map row impl_map_member_forwarded / 2 ≤ rows_in m field
+  pub method : value_in m impl_map row impl_map_member_forwarded % 2 ≡ 1
+      → (1 ≤ value_in m impl_map row impl_map_member_forwarded / 2)
+      × (value_in m impl_map row impl_map_member_forwarded / 2 ≤ rows_in m method_def)
 
 abbrev pub ImportsAreSound : Type 0
-ImportsAreSound = (bytes : List ℕ) (m : Metadata) → assembly bytes ≡ Ok m → (row : ℕ) → row < rows_in m 0x1C → IsSoundImport m row
+ImportsAreSound =
+    (bytes : List ℕ) (m : Metadata)
+    → assembly bytes ≡ Ok m
+    → (row : ℕ)
+    → row < rows_in m impl_map
+    → IsSoundImport m row
 
 -- The fields and methods of a type, by its row of TypeDef: each run begins at a row or behind the last, and not before
 -- that of the type before.
 pub record HasRuns (m : Metadata) (row : ℕ) : Type 0 where
-  pub fields : (1 ≤ value_in m 0x02 row 4) × (value_in m 0x02 row 4 ≤ rows_in m 0x04 + 1)
-  pub methods : (1 ≤ value_in m 0x02 row 5) × (value_in m 0x02 row 5 ≤ rows_in m 0x06 + 1)
-  pub fields_rise : value_before m 0x02 row 4 ≤ value_in m 0x02 row 4
-  pub methods_rise : value_before m 0x02 row 5 ≤ value_in m 0x02 row 5
+  pub fields : (1 ≤ value_in m type_def row type_def_field_list)
+      × (value_in m type_def row type_def_field_list ≤ rows_in m field + 1)
+  pub methods : (1 ≤ value_in m type_def row type_def_method_list)
+      × (value_in m type_def row type_def_method_list ≤ rows_in m method_def + 1)
+  pub fields_rise : value_before m type_def row type_def_field_list
+      ≤ value_in m type_def row type_def_field_list
+  pub methods_rise : value_before m type_def row type_def_method_list
+      ≤ value_in m type_def row type_def_method_list
 
 abbrev pub TypesHaveRuns : Type 0
-TypesHaveRuns = (bytes : List ℕ) (m : Metadata) → assembly bytes ≡ Ok m → (row : ℕ) → row < rows_in m 0x02 → HasRuns m row
+TypesHaveRuns =
+    (bytes : List ℕ) (m : Metadata)
+    → assembly bytes ≡ Ok m
+    → (row : ℕ)
+    → row < rows_in m type_def
+    → HasRuns m row
 
 -- What the headers tell of a file and the bytes of its metadata decide the answer: two files that agree in both are read
 -- as the same assembly, or refused at the same place.

@@ -5,6 +5,7 @@ pub mod Headers
 pub mod Heaps
 pub mod Streams
 pub mod Columns
+pub mod TableNames
 pub mod Layout
 pub mod Metadata
 pub mod Cells

@@ -42,8 +42,8 @@ abbrev pub name_end : ℕ → List ℕ → ℕ
 name_end place name = place + (length name / 4 + 1) * 4
 
 -- a name, whole with its padding; tables that aren't compressed aren't read
-unfoldable pub name_at : List ℕ → ℕ → Result (List ℕ) Broken
-name_at image place = do
+unfoldable pub stream_name : List ℕ → ℕ → Result (List ℕ) Broken
+stream_name image place = do
   name ← ok_or (text_at image place) (parts.streams, place)
   _ ← must (nat_le (name_end place name) (length image) && not (bytes_eq name (codes "#-"))) (parts.streams, place)
   Ok name
@@ -53,7 +53,7 @@ unfoldable pub stream_at : List ℕ → ℕ → ℕ → Result Stream Broken
 stream_at image at place = do
   offset ← field_where (λ offset. nat_le (at + offset) (length image)) parts.streams image place 4
   size ← field_where (λ size. nat_le (at + offset + size) (length image)) parts.streams image (place + 4) 4
-  name ← name_at image (place + 8)
+  name ← stream_name image (place + 8)
   Ok (record { name = name; range = record { start = at + offset; end = at + offset + size }; next = name_end (place + 8) name })
 
 -- the first stream of a name counts

@@ -5,10 +5,11 @@ use Rattle.bound_base.specs.Outside.{appended, AppendsFront}
 use Rattle.bound_base.specs.declared.image.BadImage.{BadImage}
 use Rattle.bound_base.specs.declared.image.BadImage.TheVariants.{Bad, Memory}
 use Rattle.bound_base.specs.Image.{refusal}
-use Rattle.byte_view.specs.Reading.{Broken, ◌>>=◌, Refuses}
+use Rattle.byte_view.specs.Reading.{Broken, Refuses}
 use Rattle.byte_view.specs.Headers.{Headers, headers}
 use Rattle.byte_view.specs.Metadata.{Metadata}
 use Rattle.byte_view.specs.Assembly.{assembly, metadata}
+use Rattle.byte_view.proofs.Images.{headers_refuse, metadata_refuses, assembly_read}
 use Rattle.host_run.specs.Outcome.{Meets}
 use Rattle.host_run.specs.Stops.{image_stop, put_stop}
 use Rattle.host_run.specs.Imports.{imports_text, imports_of}
@@ -16,19 +17,11 @@ use Rattle.host_run.specs.declared.stop.PutError.{PutError}
 use Rattle.host_run.specs.declared.stop.PutError.TheVariants as put
 use Rattle.host_run.proofs.Puts.{front-none}
 
--- a part that is broken in the first step is broken in the whole
-refuses-bind : {A B : Type 0} (e : BadImage) (r : Result A Broken) (f : A → Result B Broken) → Refuses refusal e r → Refuses refusal e (r >>= f)
-refuses-bind (Bad part at) r f h = ap (λ x. x >>= f) h
-refuses-bind Memory r f h = tt
-
 pub refuses-headers : (e : BadImage) (bytes : List ℕ) → Refuses refusal e (headers bytes) → Refuses refusal e (assembly bytes)
-unfolding assembly
-refuses-headers e bytes h = refuses-bind e (headers bytes) (λ x. metadata bytes x.meta_at x.meta_size) h
+refuses-headers e bytes h = headers_refuse refusal e bytes h
 
 pub refuses-metadata : (e : BadImage) (bytes : List ℕ) (h : Headers) → headers bytes ≡ Ok h → Refuses refusal e (metadata bytes h.meta_at h.meta_size) → Refuses refusal e (assembly bytes)
-unfolding assembly
-refuses-metadata (Bad part at) bytes h read refused = ap (λ x. x >>= (λ y. metadata bytes y.meta_at y.meta_size)) read ∙ refused
-refuses-metadata Memory bytes h read refused = tt
+refuses-metadata e bytes h read refused = metadata_refuses refusal e bytes h read refused
 
 pub meets-refused : (e : BadImage) (a : Result Metadata Broken) (t : Option (List ℕ)) → Refuses refusal e a → Meets (imports_of a) (Err (image_stop e)) t t
 meets-refused (Bad part at) a t h = (ap imports_of h, refl)
@@ -36,8 +29,7 @@ meets-refused Memory a t h = front-none t t (imports_of a).out refl
 
 -- the headers and the metadata that are read make the assembly
 pub assembly-read : (bytes : List ℕ) (h : Headers) (m : Metadata) → headers bytes ≡ Ok h → metadata bytes h.meta_at h.meta_size ≡ Ok m → assembly bytes ≡ Ok m
-unfolding assembly
-assembly-read bytes h m read found = ap (λ r. r >>= (λ y. metadata bytes y.meta_at y.meta_size)) read ∙ found
+assembly-read bytes h m read found = assembly_read bytes h m read found
 
 pub meets-imports : (a : Result Metadata Broken) (m : Metadata) (x : ⊤) (old new : Option (List ℕ)) → a ≡ Ok m → new ≡ appended old (imports_text m)
     → Meets (imports_of a) (Ok x) old new

@@ -88,15 +88,33 @@ has_rows rows table row len h =
       | inr g ↦ (let none : get_or rows table 0 ≡ 0 = get_or_past rows table 0 (omega arith) in absurd (omega arith))
     ]
 
+-- the cells of a table's shape are together as wide as its rows
+pub shape_width : (heap_sizes : ℕ) (rows : List ℕ) (table : ℕ) (shape : Shape) → view_shape shape ≡ shape_of heap_sizes rows table
+    → sum_by bytes_of shape.widths ≡ row_width heap_sizes rows table
+shape_width heap_sizes rows table shape shaped =
+    sym (sum-map bytes_of shape.widths) ∙ ap (λ (p : List ℕ × ℕ). sum p.0) shaped ∙ sym (row_width-sum heap_sizes rows table)
+
+-- a row ends in the stream
+pub row_ends : (stream : List ℕ) (l : CodeLayout) (table row : ℕ) → IsLaidOut stream l → row < get_or l.rows.items table 0
+    → get_or l.starts.items table 0 + row * row_width l.heap_sizes l.rows.items table + row_width l.heap_sizes l.rows.items table ≤ length stream
+row_ends stream l table row laid h =
+    let number : table < 45 = has_rows l.rows.items table row laid.rows h in
+    let among = row_within row (get_or l.rows.items table 0) (row_width l.heap_sizes l.rows.items table) h in
+    omega (arith, laid.within table number, among)
+
+-- where a row begins, by its table's shape
+pub row_starts : (l : CodeLayout) (table row : ℕ) (shape : Shape) (start : ℕ) → view_shape shape ≡ shape_of l.heap_sizes l.rows.items table
+    → start ≡ get_or l.starts.items table 0
+    → start + row * shape.row_width ≡ get_or l.starts.items table 0 + row * row_width l.heap_sizes l.rows.items table
+row_starts l table row shape start shaped here =
+    let w : shape.row_width ≡ row_width l.heap_sizes l.rows.items table = ap (λ (p : List ℕ × ℕ). p.1) shaped in
+    ap (λ s. s + row * shape.row_width) here ∙ ap (λ n. get_or l.starts.items table 0 + row * n) w
+
 -- a row of a table lies in the stream
 pub row_lies : (stream : List ℕ) (l : CodeLayout) (table row : ℕ) (shape : Shape) (start : ℕ) → IsLaidOut stream l → row < get_or l.rows.items table 0
     → view_shape shape ≡ shape_of l.heap_sizes l.rows.items table → start ≡ get_or l.starts.items table 0
     → start + row * shape.row_width + sum_by bytes_of shape.widths ≤ length stream
 row_lies stream l table row shape start laid h shaped here =
-    let number : table < 45 = has_rows l.rows.items table row laid.rows h in
-    let w : shape.row_width ≡ row_width l.heap_sizes l.rows.items table = ap (λ (p : List ℕ × ℕ). p.1) shaped in
-    let total : sum_by bytes_of shape.widths ≡ row_width l.heap_sizes l.rows.items table =
-    sym (sum-map bytes_of shape.widths) ∙ ap (λ (p : List ℕ × ℕ). sum p.0) shaped ∙ sym (row_width-sum l.heap_sizes l.rows.items table) in
-    let among = row_within row (get_or l.rows.items table 0) (row_width l.heap_sizes l.rows.items table) h in
-    let place : row * shape.row_width ≡ row * row_width l.heap_sizes l.rows.items table = ap (λ n. row * n) w in
-    omega (arith, laid.within table number, among, place, total, here)
+    let total = shape_width l.heap_sizes l.rows.items table shape shaped in
+    let begins = row_starts l table row shape start shaped here in
+    omega (arith, row_ends stream l table row laid h, begins, total)

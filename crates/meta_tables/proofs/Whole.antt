@@ -1,7 +1,7 @@
 -- The whole metadata, from its parts.
-use Rattle.std.proofs.Common.{◌≡◌, ℕ, zero, suc, ◌+◌, ◌*◌, ◌-◌, ◌<◌, ◌≤◌, Bool, true, false, List, [], length, get_or, take, map, slice_get, Some, None, Result, Ok, Err, cond, refl, sym, ap, ◌∙◌, arith}
+use Rattle.std.proofs.Common.{◌≡◌, ℕ, zero, suc, ◌+◌, ◌*◌, ◌-◌, ◌<◌, ◌≤◌, Bool, true, false, List, [], length, get_or, take, map, slice_get, Some, None, Result, Ok, Err, cond, refl, sym, ap, ◌∙◌, ◌⊎◌, inl, inr, arith}
 use Rattle.std.specs.List.{range_with_len}
-use Rattle.std.proofs.lemmas.Bool.{leb-true}
+use Rattle.std.proofs.lemmas.Bool.{leb-true, le-ltb, lt-ltb}
 use Rattle.std.proofs.lemmas.List.FromFn.{length-map-range_with_len, get_or-map-range_with_len}
 use Rattle.std.proofs.lemmas.Option.{slice_get-get_or, slice_get_past}
 use Rattle.bound_base.specs.declared.image.BadImage.{BadImage}
@@ -11,7 +11,7 @@ use Rattle.byte_view.specs.Reading.{Broken, ◌>>=◌, must, each, listed, Refus
 use Rattle.byte_view.specs.Columns.{row_width}
 use Rattle.byte_view.specs.Layout.{Layout, table_start, count_place, row_count, start_of, layout}
 use Rattle.byte_view.specs.Streams.{Range, Streams, streams}
-use Rattle.byte_view.specs.Metadata.{Metadata, row_at, row_of}
+use Rattle.byte_view.specs.Metadata.{Metadata, row_at, row_of, row_start, row_place}
 use Rattle.byte_view.specs.Cells.{check_cells}
 use Rattle.byte_view.specs.Assembly.{metadata_in}
 use Rattle.byte_view.proofs.Reading.{bind_ok, listed_length, listed_at}
@@ -21,7 +21,7 @@ use Rattle.meta_tables.specs.Shapes.{view_layout, tests_valid, HasShapes, IsLaid
 use Rattle.meta_tables.specs.Cells.{metadata_of, AreHeapsOf}
 use Rattle.byte_view.proofs.Refusals.{refuses_as}
 use Rattle.meta_tables.proofs.Tables.{table_start_next}
-use Rattle.meta_tables.proofs.Checks.{table_of_is}
+use Rattle.meta_tables.proofs.Checks.{table_of_is, rows_in_is}
 
 guard_ok : {A : Type 0} (b : Bool) (x y : A) (d : Broken) → cond b (Ok x) (Err d) ≡ Ok y → (b ≡ true) × (x ≡ y)
 guard_ok true x y d e = (refl, cc)
@@ -129,3 +129,20 @@ row_there h stream l table (suc n) len from upto =
     ∙ slice_get-get_or rows n [] (omega (arith, count))
     ∙ ap Some (get_or-map-range_with_len (row_at stream (view_layout l) table) 0 (get_or l.rows.items table 0) n n [] (omega arith) (omega arith))
     ∙ ap (λ k. Some (row_at stream (view_layout l) table k)) before
+
+-- places of rows by their numbers
+pub no_place : (h : Heaps) (stream : List ℕ) (l : CodeLayout) (table n : ℕ) → length l.rows.items ≡ 45
+    → (n < 1) ⊎ (get_or l.rows.items table 0 < n) → row_place (metadata_of h stream l) table n ≡ None
+no_place h stream l table zero len outside = refl
+no_place h stream l table (suc n) len (inl below) = absurd (omega arith)
+no_place h stream l table (suc n) len (inr past) =
+    let count = rows_in_is h stream l table len in
+    rw (count, le-ltb n (get_or l.rows.items table 0) (omega arith)) refl
+
+pub place_there : (h : Heaps) (stream : List ℕ) (l : CodeLayout) (table n : ℕ) → length l.rows.items ≡ 45 → 1 ≤ n → n ≤ get_or l.rows.items table 0
+    → row_place (metadata_of h stream l) table n ≡ Some (row_start (view_layout l) table (n - 1))
+place_there h stream l table zero len from upto = absurd (omega arith)
+place_there h stream l table (suc n) len from upto =
+    let count = rows_in_is h stream l table len in
+    let before : n ≡ suc n - 1 = omega arith in
+    rw (count, lt-ltb n (get_or l.rows.items table 0) (omega arith)) (ap (λ k. Some (row_start (view_layout l) table k)) before)

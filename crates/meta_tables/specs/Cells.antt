@@ -17,6 +17,7 @@ metadata_of h stream l = record {
   user_strings = h.user_strings.now;
   guids = h.guids.now;
   blobs = h.blobs.now;
+  layout = view_layout l;
   tables = tables_in stream (view_layout l);
 }
 

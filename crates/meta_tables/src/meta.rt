@@ -7,14 +7,14 @@ ghost use Rattle.byte_view.specs.Reading.{Reads};
 ghost use Rattle.byte_view.specs.Assembly.{metadata};
 ghost use Rattle.byte_view.specs.Cells.{rows_in};
 ghost use Rattle.byte_view.specs.Heaps.{text_at as text_of, blob_at, user_string_at};
-ghost use Rattle.byte_view.specs.Metadata.{row_of};
+ghost use Rattle.byte_view.specs.Metadata.{row_of, row_place};
 
 use crate::cells::check_cells;
 use crate::columns::rows_at;
 use crate::fields::text_at;
 use crate::heaps::{Heaps, entry_at, heaps_in, units};
 use crate::layout::{Layout, read_layout};
-use crate::rows::row_in;
+use crate::rows::{row_in, row_start};
 use crate::streams::read_streams;
 use bound_base::{BadImage, NoMemory, Units};
 use std::alloc::Global;
@@ -84,6 +84,16 @@ impl Meta<'_> {
             return None;
         }
         Some(row_in(self.stream, &self.layout, table, n - 1))
+    }
+
+    /// The file offset at which a row begins, counted from 1 (ECMA-335 II.24.2.6). None exactly outside 1 to `rows`.
+    pub fn row_place(&self, table: u8, n: u32) -> Option<u64>
+        ensures { result ≡ row_place self.now table n }
+    {
+        if n < 1 || rows_at(self.layout.rows.as_slice(), table) < n {
+            return None;
+        }
+        Some(row_start(self.stream, &self.layout, table, n - 1) as u64)
     }
 
     /// The bytes at an offset of `#Strings` up to a zero (ECMA-335 II.24.2.3). None where no zero follows.

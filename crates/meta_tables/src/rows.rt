@@ -3,8 +3,8 @@
 ghost use Rattle.std.specs.Prelude.{◌≡◌, ◌+◌, ◌*◌, ◌^◌, ◌<◌, ◌≤◌, map, length, slice_index};
 ghost use Rattle.std.specs.List.{sum_by};
 ghost use Rattle.byte_view.specs.Numbers.{le};
-ghost use Rattle.byte_view.specs.Columns.{table_numbers};
-ghost use Rattle.byte_view.specs.Metadata.{row_at};
+ghost use Rattle.byte_view.specs.Columns.{table_numbers, row_width};
+ghost use Rattle.byte_view.specs.Metadata.{row_at, row_start as start_of_row};
 ghost use Rattle.meta_tables.specs.View.{bytes_of};
 ghost use Rattle.meta_tables.specs.Shapes.{view_shape, shape_of, view_layout, HasShapes, IsLaidOut, cells_at};
 
@@ -61,12 +61,25 @@ pub fn start_in(layout: &Layout, table: u8) -> usize
     starts[table as usize]
 }
 
-/// Where a row begins.
-fn row_place(start: usize, row: u32, row_width: usize) -> usize
+/// Where row `row` of rows from `start` on begins, counted from 0.
+fn row_after(start: usize, row: u32, row_width: usize) -> usize
     requires { start + row * row_width < 2 ^ 63 }
     ensures { result ≡ start + row * row_width }
 {
     start + row as usize * row_width
+}
+
+/// The file offset at which a row begins, counted from 0; the row ends in the stream.
+pub fn row_start(stream: &[u8], layout: &Layout, table: u8, row: u32) -> usize
+    requires layout { IsLaidOut stream.now layout.now }
+    requires row { row < slice_index layout.now.rows.items table }
+    ensures place { result ≡ start_of_row (view_layout layout.now) table row }
+    ensures within { result + row_width layout.now.heap_sizes layout.now.rows.items table
+        ≤ length stream.now }
+{
+    let shape = shape_in(layout, table);
+    let start = start_in(layout, table);
+    row_after(start, row, shape.row_width)
 }
 
 /// A row of a table, counted from 0.
@@ -76,7 +89,6 @@ pub fn row_in(stream: &[u8], layout: &Layout, table: u8, row: u32) -> [u32; 9]
     ensures { result ≡ row_at stream.now (view_layout layout.now) table row }
 {
     let shape = shape_in(layout, table);
-    let start = start_in(layout, table);
-    let place = row_place(start, row, shape.row_width);
+    let place = row_start(stream, layout, table, row);
     row_from(stream, place, &shape.widths)
 }

@@ -4,7 +4,7 @@
 ghost use Rattle.std.specs.Prelude.{◌≡◌, ◌≤◌, length, Some, IfOk};
 ghost use Rattle.bound_base.specs.Image.{refusal};
 ghost use Rattle.byte_view.specs.Reading.{Reads};
-ghost use Rattle.byte_view.specs.Streams.{root, name_at, stream_at, with_stream, streams_after, streams};
+ghost use Rattle.byte_view.specs.Streams.{root, stream_name, stream_at, with_stream, streams_after, streams};
 ghost use Rattle.meta_tables.specs.View.{view_streams, view_stream, view_range, IsWithin, AreWithin};
 
 use crate::fields::{field16, field32, text_at};
@@ -61,10 +61,10 @@ fn root_of(image: &[u8], at: usize) -> Result<(u16, usize), BadImage>
 }
 
 /// A name, whole with its padding.
-#[tactic(auto, unfolding(byte_view::specs::Streams::name_at))]
+#[tactic(auto, unfolding(byte_view::specs::Streams::stream_name))]
 fn name_of(image: &[u8], place: usize) -> Result<&[u8], BadImage>
     requires { place ≤ length image.now }
-    ensures { Reads refusal (λ name. name.now) result (name_at image.now place) }
+    ensures { Reads refusal (λ name. name.now) result (stream_name image.now place) }
 {
     let bad = BadImage::Bad {
         part: Part::Streams,
