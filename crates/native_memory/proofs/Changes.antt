@@ -1,9 +1,9 @@
 -- The changes that calls make, by the block that they are about.
 use Rattle.std.proofs.Common.{◌≡◌, ℕ, ◌≢◌, nat_eq, Bool, true, false, List, length, get_or, map, Some, None, arith, sym, refl}
-use Rattle.std.specs.Prelude.{is_some, slice_set}
+use Rattle.std.specs.Prelude.{is_some, slice_set, option_and_then, if◌then◌else◌}
 use Rattle.std.specs.List.{remove}
 use Rattle.std.proofs.lemmas.Bool.Decides.{nat_tests}
-use Rattle.native_memory.specs.AddressSpace.{Block, AddressSpace, changed}
+use Rattle.native_memory.specs.AddressSpace.{Block, AddressSpace, changed, is_heap}
 use Rattle.native_memory.specs.Ranges.{covers, write_in, may_write, bytes_at, written_at}
 use Rattle.native_memory.specs.Placement.{stands_at, ended}
 use Rattle.native_memory.specs.InPlace.{is_in_place_at, waits_at, with_contents, adopted, lent_at, taken_back}
@@ -66,3 +66,12 @@ pub written_found : (space : AddressSpace) (addr : ℕ) (from : List ℕ) (at : 
 unfolding written_at
 written_found space addr from at d some here =
     rw (ne_false (length from) some, here.1, set_is space (covers addr (length from)) (write_in addr from) at d here.0) refl
+
+contents_if : (heap : Bool) (block : Block) → (if heap then block.contents else None) ≡ option_and_then (λ found. found.contents) (if heap then Some block else None)
+contents_if true block = refl
+contents_if false block = refl
+
+-- the contents of a block, where it is a heap block
+pub heap_contents_of : (block : Block)
+    → (if is_heap block then block.contents else None) ≡ option_and_then (λ found. found.contents) (if is_heap block then Some block else None)
+heap_contents_of block = contents_if (is_heap block) block

@@ -6,5 +6,6 @@ pub mod Kept
 pub mod Changes
 pub mod Room
 pub mod Reached
+pub mod HeapChanges
 pub mod WrittenBytes
 pub mod Apart

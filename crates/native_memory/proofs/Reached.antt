@@ -6,11 +6,12 @@ use Rattle.std.proofs.lemmas.List.{length-append, length-replicate}
 use Rattle.native_memory.specs.declared.kind.Kind.{Kind}
 use Rattle.native_memory.specs.declared.kind.Kind.TheVariants.{Segment, Stack, Errno, Heap, Temp, InPlace}
 use Rattle.native_memory.specs.AddressSpace.{Block, AddressSpace, live_bytes, changed}
-use Rattle.native_memory.specs.Ranges.{covers, write_in, counted, with_written, written_at}
+use Rattle.native_memory.specs.Ranges.{covers, write_in, with_written, written_at}
 use Rattle.native_memory.specs.Placement.{edge_of, has_room, with_behind, new_contents, placed, placed_at, stands_at, block_with, ended, holds_address, base_of}
 use Rattle.native_memory.specs.InPlace.{is_in_place_at, waits_at, with_contents, adopted}
 use Rattle.native_memory.specs.Sound.{HasItsBytes, IsWhole, IsSound}
 use Rattle.native_memory.specs.Search.{FailsAll}
+use Rattle.native_memory.specs.Changes.{StaysFree}
 use Rattle.native_memory.specs.Laws.{Follows, Places, PlacesAt, Writes, Ends, Adopts, TakesBack, Reaches, Stays, Goes}
 use Rattle.native_memory.proofs.Picks.{find_fails, AsksFor, asks_address, asks_base}
 use Rattle.native_memory.proofs.Kept.{KeepsPlace, changed_sound, changed_keeps, changed_whole, filtered_sound, with_block_sound, room_is, contents_keep, writes_keep, adopts_whole, takes_whole, writes_whole}
@@ -151,14 +152,21 @@ address_asks addr = record { asks = asks_address addr; place = λ a b base size.
 base_asks : (base : ℕ) → AsksOfPlace (stands_at base) base
 base_asks base = record { asks = asks_base base; place = λ a b same_base size. rw same_base refl }
 
+-- what such a state leaves free
+pub free_of : (old new : AddressSpace) → GoesOn old new → StaysFree old new
+unfolding base_of block_with
+free_of old new on = record {
+  edge = on.edge;
+  addresses = λ addr low none.
+      let free : FailsAll (holds_address addr) old.blocks = fails_of_find (holds_address addr) old.blocks (none_of _ none) in
+      rw (find_fails (holds_address addr) new.blocks (on.free (holds_address addr) addr (address_asks addr) low free)) refl;
+  bases = λ base low none.
+      let free : FailsAll (stands_at base) old.blocks = fails_of_find (stands_at base) old.blocks none in
+      find_fails (stands_at base) new.blocks (on.free (stands_at base) base (base_asks base) low free);
+}
+
 pub stays_free : (old new : AddressSpace) (addr : ℕ) → IsSound old → addr < old.edge → base_of old addr ≡ None → Reaches old new → base_of new addr ≡ None
-unfolding base_of
-stays_free old new addr sound low none reaches =
-    let free : FailsAll (holds_address addr) old.blocks = fails_of_find (holds_address addr) old.blocks (none_of _ none) in
-    rw (find_fails (holds_address addr) new.blocks ((reaches_on old new sound reaches).free (holds_address addr) addr (address_asks addr) low free)) refl
+stays_free old new addr sound low none reaches = (free_of old new (reaches_on old new sound reaches)).addresses addr low none
 
 pub base_stays_free : (old new : AddressSpace) (base : ℕ) → IsSound old → base < old.edge → block_with old base ≡ None → Reaches old new → block_with new base ≡ None
-unfolding block_with
-base_stays_free old new base sound low none reaches =
-    let free : FailsAll (stands_at base) old.blocks = fails_of_find (stands_at base) old.blocks none in
-    find_fails (stands_at base) new.blocks ((reaches_on old new sound reaches).free (stands_at base) base (base_asks base) low free)
+base_stays_free old new base sound low none reaches = (free_of old new (reaches_on old new sound reaches)).bases base low none

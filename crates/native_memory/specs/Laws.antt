@@ -1,13 +1,15 @@
 -- Laws of native memory.
-use Rattle.std.specs.Prelude.{◌≡◌, ℕ, ◌+◌, ◌-◌, ◌<◌, ◌≤◌, nat_le, nat_lt, ◌&&◌, List, length, slice_get, Option, Some, None, option_and_then, if◌then◌else◌}
+use Rattle.std.specs.Prelude.{◌≡◌, ℕ, ◌+◌, ◌-◌, ◌<◌, ◌≤◌, nat_le, nat_lt, ◌&&◌, List, length, slice_get, Option, Some, None, IsSome, option_and_then, if◌then◌else◌}
 use Rattle.std.specs.List.{find}
 use Rattle.bound_base.specs.declared.limits.Rights.{Rights}
 use Rattle.native_memory.specs.declared.kind.Kind.{Kind}
 use Rattle.native_memory.specs.AddressSpace.{Block, AddressSpace, lowest, live_bytes}
 use Rattle.native_memory.specs.Ranges.{written_at}
-use Rattle.native_memory.specs.Placement.{edge_of, placed, placed_at, ended, block_with, base_of, holds_address}
+use Rattle.native_memory.specs.declared.kind.Kind.TheVariants.{Heap}
+use Rattle.native_memory.specs.Placement.{edge_of, placed, placed_at, ended, block_with, heap_block, base_of, holds_address}
 use Rattle.native_memory.specs.InPlace.{adopted, taken_back}
 use Rattle.native_memory.specs.Sound.{IsSound}
+use Rattle.native_memory.specs.Changes.{OnlyHeapChanges, OnlyBytesChange}
 
 -- each block ends before the next begins, counted as one byte long where it has none; all lie between the lowest address and
 -- the next, and the live bytes are within the limit
@@ -50,3 +52,17 @@ EndedAddressesStayFree =
 abbrev pub EndedBasesStayFree : Type 0
 EndedBasesStayFree =
     (old new : AddressSpace) (base : ℕ) → IsSound old → base < old.edge → block_with old base ≡ None → Reaches old new → block_with new base ≡ None
+
+-- a write, a heap block that is placed and one that ends change heap blocks alone, apart from bytes;
+-- so do any number of them; and a write changes bytes alone
+pub record HeapCallsKeepOthers : Type 0 where
+  pub writes : (old new : AddressSpace) (addr : ℕ) (from : List ℕ) → IsSound old
+      → written_at old addr from ≡ Some new → OnlyHeapChanges old new
+  pub places : (old new : AddressSpace) (size : ℕ) (rights : Rights) → IsSound old
+      → placed old size rights Heap ≡ Some new → OnlyHeapChanges old new
+  pub ends : (old new : AddressSpace) (base : ℕ) → IsSound old → IsSome (heap_block old base)
+      → ended old base ≡ Some new → OnlyHeapChanges old new
+  pub joined : (old mid new : AddressSpace) → OnlyHeapChanges old mid → OnlyHeapChanges mid new
+      → OnlyHeapChanges old new
+  pub bytes : (old new : AddressSpace) (addr : ℕ) (from : List ℕ)
+      → written_at old addr from ≡ Some new → OnlyBytesChange old new

@@ -1,12 +1,12 @@
 -- Placing blocks and ending them.
-use Rattle.std.specs.Prelude.{◌≡◌, ℕ, ◌+◌, ◌-◌, ◌*◌, ◌/◌, ◌^◌, max, nat_le, Bool, true, false, ◌&&◌, not, List, [], ◌∷◌, ◌++◌, length, replicate, Option, Some, None, IsSome, option_map, if◌then◌else◌, ◌==◌}
+use Rattle.std.specs.Prelude.{◌≡◌, ℕ, ◌+◌, ◌-◌, ◌*◌, ◌/◌, ◌^◌, max, nat_le, Bool, true, false, ◌&&◌, not, List, [], ◌∷◌, ◌++◌, length, replicate, Option, Some, None, IsSome, option_map, option_and_then, if◌then◌else◌, ◌==◌}
 use Rattle.std.specs.List.{filter, find}
 use Rattle.bound_base.specs.declared.limits.Rights.{Rights}
 use Rattle.native_memory.specs.declared.kind.Kind.{Kind}
 use Rattle.native_memory.specs.declared.kind.Kind.TheVariants.{Segment, Stack, Errno, Heap, Temp, InPlace}
 use Rattle.native_memory.specs.declared.faults.PlaceBad.{PlaceBad}
 use Rattle.native_memory.specs.declared.faults.PlaceBad.TheVariants.{Room, Memory}
-use Rattle.native_memory.specs.AddressSpace.{Block, AddressSpace, block_of, live_bytes}
+use Rattle.native_memory.specs.AddressSpace.{Block, AddressSpace, block_of, live_bytes, is_heap}
 
 -- the least multiple of 16 not below
 abbrev pub up_to_16 : ℕ → ℕ
@@ -64,6 +64,15 @@ stands_at base block = block.base == base
 -- the live block with a base
 unfoldable pub block_with : AddressSpace → ℕ → Option Block
 block_with space base = find (stands_at base) space.blocks
+
+-- the live heap block with a base
+abbrev pub heap_block : AddressSpace → ℕ → Option Block
+heap_block space base =
+    option_and_then (λ block. if is_heap block then Some block else None) (block_with space base)
+
+-- the bytes of that block, whatever its rights
+abbrev pub heap_contents : AddressSpace → ℕ → Option (List ℕ)
+heap_contents space base = option_and_then (λ block. block.contents) (heap_block space base)
 
 -- what is told of a block
 abbrev pub described : Block → (ℕ × Rights × Kind)

@@ -1,6 +1,7 @@
 //! A live block: a small entry, and its contents beside it.
 
-ghost use Rattle.std.specs.Prelude.{◌≡◌, ◌+◌, ◌-◌, ◌≤◌, true, drop, length, is_some, option_map, IfOk, IfSome};
+ghost use Rattle.std.specs.Prelude.{◌≡◌, ◌+◌, ◌-◌, ◌≤◌, true, drop, length, is_some, option_map};
+ghost use Rattle.std.specs.Prelude.{IfOk, IfSome, None, if◌then◌else◌};
 ghost use Rattle.std.specs.Option.{option_copied};
 ghost use Rattle.native_memory.specs.AddressSpace.{is_heap, listed, block_of};
 ghost use Rattle.native_memory.specs.Ranges.{covers, may_read, right_of, open_bytes, part, overwritten, write_in};
@@ -143,6 +144,19 @@ impl LiveBlock {
         }
         match &self.body.contents {
             Some(bytes) => Some(&bytes[(addr - self.base) as usize..]),
+            None => None,
+        }
+    }
+
+    /// The bytes of a heap block, whatever its rights. None of another block.
+    pub fn heap_contents(&self) -> Option<&[u8]>
+        ensures { option_copied result ≡ (if is_heap self.now then self.now.contents else None) }
+    {
+        if !self.is_heap() {
+            return None;
+        }
+        match &self.body.contents {
+            Some(bytes) => Some(bytes.as_slice()),
             None => None,
         }
     }

@@ -14,7 +14,10 @@ mod steps;
 
 pub use faults::{Fault, PlaceBad};
 pub use kind::Kind;
-pub use laws::{ended_addresses_stay_free, ended_bases_stay_free, writes_change_their_range};
+pub use laws::{
+    ended_addresses_stay_free, ended_bases_stay_free, heap_calls_keep_others,
+    writes_change_their_range,
+};
 pub use memory::Memory;
 pub use rights::DATA_RIGHTS;
 pub use steps::Steps;

@@ -9,7 +9,7 @@ ghost use Rattle.native_memory.specs.AddressSpace.{empty, live_bytes, heap_block
 ghost use Rattle.native_memory.specs.Ranges.{covers, may_read, right_of, right_to};
 ghost use Rattle.native_memory.specs.Ranges.{bytes_at, rest_at, word_at, written_at, counted};
 ghost use Rattle.native_memory.specs.Placement.{placed, placed_at, ended, Does, FailsToPlace};
-ghost use Rattle.native_memory.specs.Placement.{base_of, block_with, described, stands_at};
+ghost use Rattle.native_memory.specs.Placement.{base_of, block_with, heap_contents, described, stands_at};
 ghost use Rattle.native_memory.specs.Placement.{has_room, with_behind};
 ghost use Rattle.native_memory.specs.InPlace.{adopted, lent_at, taken_back, are_all_here};
 ghost use Rattle.native_memory.specs.InPlace.{is_in_place_at, waits_at};
@@ -369,6 +369,14 @@ impl Memory {
         let at = self.at_base(base)?;
         let block = &self.blocks[at];
         Some((block.size(), block.rights(), block.kind()))
+    }
+
+    /// The bytes of the live heap block with this base, lent, whatever its rights. None where no live heap block has it.
+    pub fn heap_contents(&self, base: u64) -> Option<&[u8]>
+        ensures { option_copied result ≡ heap_contents self.now.space base }
+    {
+        let at = self.at_base(base)?;
+        self.blocks[at].heap_contents()
     }
 
     /// The bytes of a range that one live block with the right covers.
