@@ -1,0 +1,3 @@
+pub mod StepsTaken
+pub mod EventPlaces
+pub mod EntryWords
