@@ -13,9 +13,6 @@ use Rattle.byte_view.specs.Reading.{Broken, ◌>>=◌, must}
 use Rattle.byte_view.specs.ElfDynamic as definition
 use Rattle.byte_view.specs.ElfParts as parts
 use Rattle.byte_view.proofs.Reading.{bind_ok, bind_err, bind_read}
-use Rattle.elf_reader.specs.declared.part.ElfBad.{ElfBad}
-use Rattle.elf_reader.specs.Refusals.{Refuses}
-use Rattle.elf_reader.proofs.Steps.{refuses_as}
 
 abbrev pub Entry : Type 0
 Entry = definition.Entry
@@ -132,15 +129,23 @@ module _ (bytes : List ℕ) (header : ℕ) where
       rw (← split) (checks_append (take k table) (get_or table k d ∷ drop (suc k) table) checked ∙ checks_fail (get_or table k d) (drop (suc k) table) f e)
 
   -- an entry of the table is refused
-  pub refused : (e : ElfBad) (k : ℕ) → k < definition.entry_count bytes header → Going k → definition.check_entries (take k all) ≡ Ok 0 → definition.is_end (definition.entry_at bytes (start + 16 * k)) ≡ false → Refuses e (definition.check_entry (definition.entry_at bytes (start + 16 * k))) → Refuses e (definition.dynamic_table bytes header)
-  refused e k h going checked more r =
+  pub refused : (f : Broken) (k : ℕ) → k < definition.entry_count bytes header → Going k
+      → definition.check_entries (take k all) ≡ Ok 0
+      → definition.is_end (definition.entry_at bytes (start + 16 * k)) ≡ false
+      → definition.check_entry (definition.entry_at bytes (start + 16 * k)) ≡ Err f
+      → definition.dynamic_table bytes header ≡ Err f
+  refused f k h going checked more it =
       let d : Entry = definition.entry_at bytes 0 in
       let there = entry_there k d h in
       let on : k < position_or_len definition.is_end all = goes_on k d h going (rw there more) in
       let n : ℕ = position_or_len definition.is_end all in
-      refuses_as e (definition.check_entry (definition.entry_at bytes (start + 16 * k))) (definition.dynamic_table bytes header) (λ f it.
-      let within : k < length (take (position_or_len definition.is_end all) all) = omega (arith, length-take (position_or_len definition.is_end all) all, entries_count) in
-      let front : take k (take (position_or_len definition.is_end all) all) ≡ take k all = take-take k (position_or_len definition.is_end all) all (omega arith) in
-      let here : get_or (take (position_or_len definition.is_end all) all) k d ≡ definition.entry_at bytes (start + 16 * k) = get_or-take (position_or_len definition.is_end all) all k d on ∙ there in
+      let within : k < length (take (position_or_len definition.is_end all) all) =
+      omega (arith, length-take (position_or_len definition.is_end all) all, entries_count) in
+      let front : take k (take (position_or_len definition.is_end all) all) ≡ take k all =
+      take-take k (position_or_len definition.is_end all) all (omega arith) in
+      let here : get_or (take (position_or_len definition.is_end all) all) k d ≡ definition.entry_at bytes (start + 16 * k) =
+      get_or-take (position_or_len definition.is_end all) all k d on ∙ there in
       let cut = cut_at (take (position_or_len definition.is_end all) all) k d f within (rw front checked) (rw here it) in
-      by_place (position_or_len definition.is_end all) refl ∙ bind_err _ (λ _. must (nat_lt (length (take (position_or_len definition.is_end all) all)) (length all)) (parts.dynamic, header + 8) >>= λ _. Ok (take (position_or_len definition.is_end all) all)) f cut) r
+      by_place (position_or_len definition.is_end all) refl
+      ∙ bind_err _ (λ _. must (nat_lt (length (take (position_or_len definition.is_end all) all)) (length all)) (parts.dynamic, header + 8)
+      >>= λ _. Ok (take (position_or_len definition.is_end all) all)) f cut

@@ -1,4 +1,3 @@
-pub mod Steps
 pub mod Positions
 pub mod ProgramHeaders
 pub mod Words

@@ -1,15 +1,14 @@
 -- The loads of the program headers, one after another.
-use Rattle.std.proofs.Common.{◌≡◌, ℕ, ◌+◌, ◌*◌, ◌^◌, ◌<◌, ◌≤◌, true, false, List, [], ◌∷◌, ◌++◌, Result, Ok, Err, refl, arith}
+use Rattle.std.proofs.Common.{◌≡◌, ℕ, ◌+◌, ◌*◌, ◌^◌, ◌<◌, ◌≤◌, true, false, List, [], ◌∷◌, ◌++◌, Result, Ok, Err, refl, suc, ◌∙◌, arith}
 use Rattle.std.specs.Prelude.{All}
 use Rattle.std.proofs.lemmas.List.Elements.{All-push, All-weaker}
 use Rattle.std.proofs.lemmas.List.Quantifiers.{all_pairs_push}
 use Rattle.byte_view.specs.Reading.{Broken}
 use Rattle.byte_view.specs.ElfLoads as definition
-use Rattle.elf_reader.specs.declared.part.ElfBad.{ElfBad}
 use Rattle.elf_reader.specs.declared.elf.Load.{Load}
-use Rattle.elf_reader.specs.Refusals.{Refuses}
 use Rattle.elf_reader.specs.Loads.{AreSound, file_end}
-use Rattle.elf_reader.proofs.Steps.{refuses_as, chain_more, chain_refused}
+use Rattle.byte_view.proofs.Reading.{bind_read}
+use Rattle.byte_view.proofs.Refusals.{chain_failed, chain_more}
 
 pub last_end_push : (loads : List definition.Load) (load : definition.Load) → definition.last_end (loads ++ load ∷ []) ≡ definition.end_of load
 last_end_push [] load = refl
@@ -43,15 +42,21 @@ module _ (bytes : List ℕ) (start : ℕ) where
   passed k before so_far here =
       chain_more (definition.loads bytes start) (λ n x. definition.and_load bytes x (start + 56 * n)) (λ n. refl) k before before so_far (and_passed before (start + 56 * k) here)
 
-  pub refused : (e : ElfBad) (k m : ℕ) (before : List definition.Load) → definition.loads bytes start k ≡ Ok before → k < m → definition.is_of_type definition.pt_load bytes (start + 56 * k) ≡ true → Refuses e (definition.load_at bytes (definition.last_end before) (start + 56 * k)) → Refuses e (definition.loads bytes start m)
+  pub refused : (d : Broken) (k m : ℕ) (before : List definition.Load) → definition.loads bytes start k ≡ Ok before → k < m
+      → definition.is_of_type definition.pt_load bytes (start + 56 * k) ≡ true
+      → definition.load_at bytes (definition.last_end before) (start + 56 * k) ≡ Err d
+      → definition.loads bytes start m ≡ Err d
   unfolding definition.loads
-  refused e k m before so_far h here r =
-      let G : ℕ → List definition.Load → Result (List definition.Load) Broken = λ n x. definition.and_load bytes x (start + 56 * n) in
-      chain_refused (definition.loads bytes start) G (λ n. refl) e k m before so_far h (refuses_as e (definition.load_at bytes (definition.last_end before) (start + 56 * k)) (G k before) (λ d f. and_refused before d (start + 56 * k) here f) r)
+  refused d k m before so_far h here r =
+      let F : ℕ → Result (List definition.Load) Broken = definition.loads bytes start in
+      let G : ℕ → List definition.Load → Result (List definition.Load) Broken =
+      λ n x. definition.and_load bytes x (start + 56 * n) in
+      chain_failed F G (λ n. refl) (suc k) m d
+      (bind_read (F k) (G k) before so_far ∙ and_refused before d (start + 56 * k) here r) h
 
--- one more load behind the others
+-- one more load after the others
 pub sound_push : (size end : ℕ) (loads : List Load) (load : Load) → AreSound size loads → All (λ one. file_end one ≤ end) loads → load.file_at + load.file_size ≤ size → file_end load < 2 ^ 32 → end ≤ load.vaddr → AreSound size (loads ++ load ∷ [])
-sound_push size end loads load sound before in_file low behind = record {
+sound_push size end loads load sound before in_file low after = record {
   in_file = All-push (λ one. one.file_at + one.file_size ≤ size) loads load sound.in_file in_file;
   low = All-push (λ one. file_end one < 2 ^ 32) loads load sound.low low;
   apart = all_pairs_push (λ one later. file_end one ≤ later.vaddr) loads load sound.apart (λ k d h. let ends = before k d h in omega arith);

@@ -1,13 +1,12 @@
 -- The program header of the dynamic section among the program headers, one after another.
-use Rattle.std.proofs.Common.{◌≡◌, ℕ, ◌+◌, ◌*◌, ◌<◌, Bool, true, false, List, Option, Some, None, Result, Ok, Err, refl}
+use Rattle.std.proofs.Common.{◌≡◌, ℕ, ◌+◌, ◌*◌, ◌<◌, Bool, true, false, List, Option, Some, None, Result, Ok, Err, refl, suc, ◌∙◌}
 use Rattle.std.specs.Prelude.{is_some, not}
 use Rattle.byte_view.specs.Reading.{Broken, must}
 use Rattle.byte_view.specs.ElfLoads.{is_of_type, pt_dynamic}
 use Rattle.byte_view.specs.ElfDynamic.{and_dynamic, dynamic_among}
 use Rattle.byte_view.specs.ElfParts as parts
-use Rattle.elf_reader.specs.declared.part.ElfBad.{ElfBad}
-use Rattle.elf_reader.specs.Refusals.{Refuses}
-use Rattle.elf_reader.proofs.Steps.{refuses_as, chain_more, chain_refused}
+use Rattle.byte_view.proofs.Reading.{bind_read}
+use Rattle.byte_view.proofs.Refusals.{chain_failed, chain_more}
 
 another : (bytes : List ℕ) (before : Option ℕ) (is_first : Bool) (at : ℕ) (d : Broken) → is_some before ≡ not is_first → is_of_type pt_dynamic bytes at ≡ true → must is_first (parts.dynamic, at) ≡ Err d → and_dynamic bytes before at ≡ Err d
 another bytes None true at d s e f = absurd (cc)
@@ -28,11 +27,16 @@ pub among_none : (bytes : List ℕ) (start : ℕ) → dynamic_among bytes start 
 unfolding dynamic_among
 among_none bytes start = refl
 
-pub among_refused : (bytes : List ℕ) (start : ℕ) (e : ElfBad) (k m : ℕ) (before : Option ℕ) (is_first : Bool) → is_some before ≡ not is_first → dynamic_among bytes start k ≡ Ok before → k < m → is_of_type pt_dynamic bytes (start + 56 * k) ≡ true → Refuses e (must is_first (parts.dynamic, start + 56 * k)) → Refuses e (dynamic_among bytes start m)
+pub among_refused : (bytes : List ℕ) (start : ℕ) (d : Broken) (k m : ℕ) (before : Option ℕ) (is_first : Bool)
+    → is_some before ≡ not is_first → dynamic_among bytes start k ≡ Ok before → k < m
+    → is_of_type pt_dynamic bytes (start + 56 * k) ≡ true
+    → must is_first (parts.dynamic, start + 56 * k) ≡ Err d → dynamic_among bytes start m ≡ Err d
 unfolding dynamic_among
-among_refused bytes start e k m before is_first s so_far h here r =
+among_refused bytes start d k m before is_first s so_far h here r =
+    let F : ℕ → Result (Option ℕ) Broken = dynamic_among bytes start in
     let G : ℕ → Option ℕ → Result (Option ℕ) Broken = λ n x. and_dynamic bytes x (start + 56 * n) in
-    chain_refused (dynamic_among bytes start) G (λ n. refl) e k m before so_far h (refuses_as e (must is_first (parts.dynamic, start + 56 * k)) (G k before) (λ d f. another bytes before is_first (start + 56 * k) d s here f) r)
+    chain_failed F G (λ n. refl) (suc k) m d
+    (bind_read (F k) (G k) before so_far ∙ another bytes before is_first (start + 56 * k) d s here r) h
 
 pub among_found : (bytes : List ℕ) (start k y : ℕ) (before : Option ℕ) (is_first : Bool) → is_some before ≡ not is_first → dynamic_among bytes start k ≡ Ok before → is_of_type pt_dynamic bytes (start + 56 * k) ≡ true → must {R = Broken} is_first (parts.dynamic, start + 56 * k) ≡ Ok y → dynamic_among bytes start (k + 1) ≡ Ok (Some (start + 56 * k))
 unfolding dynamic_among

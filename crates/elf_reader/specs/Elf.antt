@@ -1,10 +1,12 @@
 -- What an `Elf` says of a file: the library of the definitions.
 use Rattle.std.specs.Prelude.{map}
 use Rattle.byte_view.specs.ElfLoads as loads
+use Rattle.byte_view.specs.ElfDynamic as dynamic
 use Rattle.byte_view.specs.ElfSymbols as symbols
 use Rattle.byte_view.specs.ElfRelocations as relocations
 use Rattle.byte_view.specs.Library as library
 use Rattle.elf_reader.specs.declared.elf.Load.{Load}
+use Rattle.elf_reader.specs.declared.entry.Entry.{Entry}
 use Rattle.elf_reader.specs.declared.elf.Symbol.{Symbol}
 use Rattle.elf_reader.specs.declared.elf.Relocation.{Relocation}
 use Rattle.elf_reader.specs.declared.elf.Elf.{Elf}
@@ -21,6 +23,10 @@ load_of load = record {
   executable = load.rights.x;
 }
 
+-- an entry of the dynamic section
+abbrev pub dynamic_entry : Entry → dynamic.Entry
+dynamic_entry entry = record { at = entry.at; tag = entry.tag; value = entry.value }
+
 abbrev pub symbol_of : Symbol → symbols.Symbol
 symbol_of symbol = record {
   name = symbol.name;
@@ -32,7 +38,13 @@ symbol_of symbol = record {
 }
 
 abbrev pub relocation_of : Relocation → relocations.Relocation
-relocation_of r = record { at = r.at; offset = r.offset; symbol = r.symbol; kind = r.kind; addend = r.addend }
+relocation_of r = record {
+  at = r.at;
+  offset = r.offset;
+  symbol = r.symbol;
+  kind = r.kind;
+  addend = r.addend;
+}
 
 abbrev pub library_of : Elf → library.Library
 library_of elf = record {
@@ -40,5 +52,9 @@ library_of elf = record {
   symbols = map symbol_of elf.symbols;
   relocations = map relocation_of elf.relocs;
   init = elf.init;
-  init_array = record { at = elf.init_array_at; addr = elf.init_array.0; size = elf.init_array.1 };
+  init_array = record {
+    at = elf.init_array_at;
+    addr = elf.init_array.0;
+    size = elf.init_array.1;
+  };
 }

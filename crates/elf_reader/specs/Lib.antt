@@ -1,5 +1,4 @@
 pub mod Elf
 pub mod Refusals
 pub mod Loads
-pub mod Dynamic
 pub mod Names

@@ -1,7 +1,7 @@
 -- The zeros at which names end.
 use Rattle.std.specs.Prelude.{◌≡◌, ℕ, ◌+◌, ◌*◌, ◌/◌, ◌<◌, ◌≤◌, List, length, slice_index}
 
--- the first zero of some bytes from a place on stands at another, which is their end where there is none
+-- the first zero of some bytes from an index on stands at another, which is their end where there is none
 pub record IsFirstZero (bytes : List ℕ) (at zero : ℕ) : Type 0 where
   pub from : at ≤ zero
   pub within : zero ≤ length bytes
@@ -11,4 +11,5 @@ pub record IsFirstZero (bytes : List ℕ) (at zero : ℕ) : Type 0 where
 -- the first zeros from the start of each block of 64 bytes on
 pub record AreOf (bytes from_block : List ℕ) : Type 0 where
   pub count : length from_block ≡ length bytes / 64 + 1
-  pub each : (block : ℕ) → 64 * block ≤ length bytes → IsFirstZero bytes (64 * block) (slice_index from_block block)
+  pub each : (block : ℕ) → 64 * block ≤ length bytes
+      → IsFirstZero bytes (64 * block) (slice_index from_block block)

@@ -1,57 +1,76 @@
--- The parts of a library by their places in the reading order, their names, and what a reader answers.
-use Rattle.std.specs.Prelude.{◌≡◌, ℕ, List, [], ◌∷◌, slice_index_or, codes, Result, Ok, Err, ⊤}
-use Rattle.byte_view.specs.Reading.{Broken}
-use Rattle.byte_view.specs.ElfParts as parts
+-- The parts of a library by their places in the reading order, their names, and what errors say.
+use Rattle.std.specs.Prelude.{◌≡◌, ℕ, List, [], ◌∷◌, map, slice_index_or, codes, Option, Some, None, Result}
+use denote.Enum.Declared.{tag_of}
+use Rattle.byte_view.specs.Reading as reading
+use Rattle.byte_view.specs.ElfParts as places
+use Rattle.elf_reader.specs.contracts.part.ElfPart.{the_type}
 use Rattle.elf_reader.specs.declared.part.ElfPart.{ElfPart}
+use Rattle.elf_reader.specs.declared.part.ElfPart.TheVariants.{Ident, Machine, Flags, ProgramHeaders, Load, Tls, Dynamic, Symbols, Relocs, RelocType, RelocTarget, Unresolved, Init}
 use Rattle.elf_reader.specs.declared.part.ElfPart.TheVariants as variant
+use Rattle.elf_reader.specs.declared.part.Broken.{Broken}
 use Rattle.elf_reader.specs.declared.part.ElfBad.{ElfBad}
 use Rattle.elf_reader.specs.declared.part.ElfBad.TheVariants.{BadElf, Memory}
 
--- the place of a part in the reading order, from 0
-abbrev pub part_place : ElfPart → ℕ
-part_place variant.Ident = parts.ident
-part_place variant.Type = parts.file_type
-part_place variant.Machine = parts.machine
-part_place variant.Flags = parts.flags
-part_place variant.ProgramHeaders = parts.program_headers
-part_place variant.Load = parts.load
-part_place variant.Tls = parts.tls
-part_place variant.Dynamic = parts.dynamic
-part_place variant.Symbols = parts.symbols
-part_place variant.Relocs = parts.relocs
-part_place variant.RelocType = parts.reloc_type
-part_place variant.RelocTarget = parts.reloc_target
-part_place variant.Unresolved = parts.unresolved
-part_place variant.Init = parts.init
-
--- the parts as they are printed, in reading order
-abbrev pub part_names : List (List ℕ)
-part_names =
-    codes "ident"
-    ∷ codes "type"
-    ∷ codes "machine"
-    ∷ codes "flags"
-    ∷ codes "program headers"
-    ∷ codes "load"
-    ∷ codes "tls"
-    ∷ codes "dynamic"
-    ∷ codes "symbols"
-    ∷ codes "relocs"
-    ∷ codes "reloc type"
-    ∷ codes "reloc target"
-    ∷ codes "unresolved"
-    ∷ codes "init"
+-- the parts in reading order, each as it is printed
+abbrev pub parts : List (ElfPart × List ℕ)
+parts =
+    (Ident, codes "ident")
+    ∷ (variant.Type, codes "type")
+    ∷ (Machine, codes "machine")
+    ∷ (Flags, codes "flags")
+    ∷ (ProgramHeaders, codes "program headers")
+    ∷ (Load, codes "load")
+    ∷ (Tls, codes "tls")
+    ∷ (Dynamic, codes "dynamic")
+    ∷ (Symbols, codes "symbols")
+    ∷ (Relocs, codes "relocs")
+    ∷ (RelocType, codes "reloc type")
+    ∷ (RelocTarget, codes "reloc target")
+    ∷ (Unresolved, codes "unresolved")
+    ∷ (Init, codes "init")
     ∷ []
+
+-- the names in reading order
+abbrev pub part_names : List (List ℕ)
+part_names = map (λ row. row.1) parts
+
+-- the place of a part in the reading order, from 0, which is that of its variant
+abbrev pub part_place : ElfPart → ℕ
+part_place part = tag_of the_type part
 
 abbrev pub part_name : ElfPart → List ℕ
 part_name part = slice_index_or part_names (part_place part) []
 
--- A reader's refusal is the definition's: the place of the part, and the offset. Want of memory is free.
-abbrev pub Refuses : {Y : Type 0} → ElfBad → Result Y Broken → Type 0
-Refuses (BadElf part at) read = read ≡ Err (part_place part, at)
-Refuses Memory read = ⊤
+-- the parts stand where the definitions of the format number them
+abbrev pub PartsAreWhereDefined : Type 0
+PartsAreWhereDefined =
+    map (λ row. part_place row.0) parts
+    ≡ places.ident
+    ∷ places.file_type
+    ∷ places.machine
+    ∷ places.flags
+    ∷ places.program_headers
+    ∷ places.load
+    ∷ places.tls
+    ∷ places.dynamic
+    ∷ places.symbols
+    ∷ places.relocs
+    ∷ places.reloc_type
+    ∷ places.reloc_target
+    ∷ places.unresolved
+    ∷ places.init
+    ∷ []
 
--- what a reader answered, seen by `view`, is what the definition reads
-abbrev pub Reads : {X Y : Type 0} → (X → Y) → Result X ElfBad → Result Y Broken → Type 0
-Reads view (Ok x) read = read ≡ Ok (view x)
-Reads view (Err e) read = Refuses e read
+-- what an error of a reader that takes no memory says: the place of the part, and the file offset
+abbrev pub broken_part : Broken → Option reading.Broken
+broken_part broken = Some (part_place broken.part, broken.at)
+
+-- what an error says: the place of the part that is broken, and the file offset; want of memory says
+-- nothing
+abbrev pub refusal : ElfBad → Option reading.Broken
+refusal (BadElf part at) = Some (part_place part, at)
+refusal Memory = None
+
+-- `Reads` of the readers' vocabulary at this crate's errors, for crates above that haven't moved over
+abbrev pub Reads : {X Y : Type 0} → (X → Y) → Result X ElfBad → Result Y reading.Broken → Type 0
+Reads view result read = reading.Reads refusal view result read

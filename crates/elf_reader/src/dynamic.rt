@@ -3,13 +3,14 @@
 ghost use Rattle.std.specs.Prelude.{◌≡◌, ◌+◌, ◌*◌, ◌<◌, ◌≤◌, length, map, option_map, IfOk, IfSome};
 ghost use Rattle.byte_view.specs.Numbers.{le};
 ghost use Rattle.byte_view.specs.ElfDynamic as definition;
-ghost use Rattle.elf_reader.specs.Refusals.{Reads};
-ghost use Rattle.elf_reader.specs.Dynamic.{entry_of};
+ghost use Rattle.byte_view.specs.Reading.{Reads};
+ghost use Rattle.elf_reader.specs.Elf.{dynamic_entry};
+ghost use Rattle.elf_reader.specs.Refusals.{broken_part, refusal};
 
 use crate::entry::{Entry, Table};
 use crate::fields::{broken, must, number64};
 use crate::headers::{HEADER_SIZE, Headers, header_type};
-use crate::part::{ElfBad, ElfPart};
+use crate::part::{Broken, ElfBad, ElfPart};
 use std::alloc::Global;
 
 /// `p_type` of the dynamic section.
@@ -56,9 +57,9 @@ pub const DT_GNU_HASH: u64 = 0x6FFF_FEF5;
 
 /// The file offset of the one program header of the dynamic section.
 #[tactic(auto, unfolding(byte_view::specs::ElfDynamic::dynamic_header))]
-pub fn dynamic_header(bytes: &[u8], headers: Headers) -> Result<usize, ElfBad>
+pub fn dynamic_header(bytes: &[u8], headers: Headers) -> Result<usize, Broken>
     requires { 0 < headers.count → headers.start + 56 * headers.count ≤ length bytes.now }
-    ensures header { Reads (λ x. x) result
+    ensures header { Reads broken_part (λ x. x) result
         (definition.dynamic_header bytes.now headers.start headers.count) }
     ensures within { IfOk result (λ at. at + 56 ≤ length bytes.now) }
 {
@@ -66,9 +67,9 @@ pub fn dynamic_header(bytes: &[u8], headers: Headers) -> Result<usize, ElfBad>
 }
 
 /// The file offset of the program header of the dynamic section, if there is one; a second one is refused.
-fn dynamic_among(bytes: &[u8], headers: Headers) -> Result<Option<usize>, ElfBad>
+fn dynamic_among(bytes: &[u8], headers: Headers) -> Result<Option<usize>, Broken>
     requires { 0 < headers.count → headers.start + 56 * headers.count ≤ length bytes.now }
-    ensures header { Reads (λ x. x) result
+    ensures header { Reads broken_part (λ x. x) result
         (definition.dynamic_among bytes.now headers.start headers.count) }
     ensures within { IfOk result (λ found. IfSome found (λ at. at + 56 ≤ length bytes.now)) }
 {
@@ -86,7 +87,7 @@ fn dynamic_among(bytes: &[u8], headers: Headers) -> Result<Option<usize>, ElfBad
 /// The entries before `DT_NULL`, which has to stand in the file and in the segment of the program header at `header`.
 pub fn dynamic_table(alloc: Global, bytes: &[u8], header: usize) -> Result<Table, ElfBad>
     requires { header + 56 ≤ length bytes.now }
-    ensures { Reads (map entry_of) result (definition.dynamic_table bytes.now header) }
+    ensures { Reads refusal (map dynamic_entry) result (definition.dynamic_table bytes.now header) }
 {
     let start = number64(bytes, header + 8) as usize;
     let mut table = Table::new(alloc);
@@ -99,7 +100,7 @@ pub fn dynamic_table(alloc: Global, bytes: &[u8], header: usize) -> Result<Table
         check_entry(entry)?;
         table.push(entry)?;
     }
-    Err(broken(ElfPart::Dynamic, header + 8))
+    Err(broken(ElfPart::Dynamic, header + 8).into())
 }
 
 /// How many whole entries the segment of the program header at `header` and the file have.
@@ -117,7 +118,7 @@ fn entry_count(bytes: &[u8], header: usize) -> usize
 /// The entry at `at`.
 fn entry_at(bytes: &[u8], at: usize) -> Entry
     requires { at + 16 ≤ length bytes.now }
-    ensures { entry_of result ≡ definition.entry_at bytes.now at }
+    ensures { dynamic_entry result ≡ definition.entry_at bytes.now at }
 {
     Entry {
         at,
@@ -129,8 +130,8 @@ fn entry_at(bytes: &[u8], at: usize) -> Entry
 /// Asks that an entry isn't of text relocations or of relocations without addends, and of the size of a table's entry
 /// that it is 24 bytes.
 #[tactic(auto, unfolding(byte_view::specs::ElfDynamic::check_entry))]
-fn check_entry(entry: Entry) -> Result<(), ElfBad>
-    ensures { Reads (λ _. 0) result (definition.check_entry (entry_of entry)) }
+fn check_entry(entry: Entry) -> Result<(), Broken>
+    ensures { Reads broken_part (λ _. 0) result (definition.check_entry (dynamic_entry entry)) }
 {
     let is_refused = entry.tag == DT_TEXTREL || entry.tag == DT_REL;
     must(!is_refused, ElfPart::Dynamic, entry.at)?;
@@ -145,7 +146,8 @@ fn check_entry(entry: Entry) -> Result<(), ElfBad>
 /// The first entry of a tag.
 #[tactic(auto, unfolding(byte_view::specs::ElfDynamic::entry_of))]
 pub fn first_of(table: &[Entry], tag: u64) -> Option<Entry>
-    ensures { option_map entry_of result ≡ definition.entry_of (map entry_of table.now) tag }
+    ensures { option_map dynamic_entry result
+        ≡ definition.entry_of (map dynamic_entry table.now) tag }
 {
     table.iter().copied().find(|entry| entry.tag == tag)
 }
@@ -153,7 +155,7 @@ pub fn first_of(table: &[Entry], tag: u64) -> Option<Entry>
 /// The value of the first entry of a tag, 0 where there is none.
 #[tactic(auto, unfolding(byte_view::specs::ElfDynamic::value_of))]
 pub fn value_of(table: &[Entry], tag: u64) -> u64
-    ensures { result ≡ definition.value_of (map entry_of table.now) tag }
+    ensures { result ≡ definition.value_of (map dynamic_entry table.now) tag }
 {
     first_of(table, tag).map_or(0, |entry| entry.value)
 }

@@ -3,47 +3,49 @@
 ghost use Rattle.std.specs.Prelude.{◌≡◌, ◌+◌, ◌≤◌, length};
 ghost use Rattle.byte_view.specs.Numbers.{le};
 ghost use Rattle.byte_view.specs.Reading as reading;
-ghost use Rattle.elf_reader.specs.Refusals.{Reads, part_place};
-ghost use Rattle.elf_reader.specs.declared.part.ElfBad.TheVariants.{BadElf};
+ghost use Rattle.elf_reader.specs.Refusals.{broken_part, part_place};
 
-use crate::part::{ElfBad, ElfPart};
+use crate::part::{Broken, ElfPart};
 use byte_view::{le16, le32, le64};
 
 /// The refusal of a part at a file offset.
-pub fn broken(part: ElfPart, at: usize) -> ElfBad
-    ensures { result ≡ BadElf part at }
+pub fn broken(part: ElfPart, at: usize) -> Broken
+    ensures { result ≡ record { part = part; at = at } }
 {
-    ElfBad::BadElf {
+    Broken {
         part,
         at: at as u64,
     }
 }
 
 /// Refuses the part at `at` unless a test of it holds.
-pub fn must(holds: bool, part: ElfPart, at: usize) -> Result<(), ElfBad>
-    ensures { Reads (λ _. 0) result (reading.must holds (part_place part, at)) }
+pub fn must(holds: bool, part: ElfPart, at: usize) -> Result<(), Broken>
+    ensures { reading.Reads broken_part (λ _. 0) result (reading.must holds (part_place part, at)) }
 {
     if holds { Ok(()) } else { Err(broken(part, at)) }
 }
 
 /// The number in the byte at `at`; the part is refused there if the file ends before it does.
 #[tactic(auto, unfolding(byte_view::specs::Numbers::le))]
-pub fn field8(part: ElfPart, bytes: &[u8], at: usize) -> Result<u8, ElfBad>
-    ensures { Reads (λ x. x) result (reading.field (part_place part) bytes.now at 1) }
+pub fn field8(part: ElfPart, bytes: &[u8], at: usize) -> Result<u8, Broken>
+    ensures { reading.Reads broken_part (λ x. x) result
+        (reading.field (part_place part) bytes.now at 1) }
 {
     bytes.get(at).copied().ok_or(broken(part, at))
 }
 
 /// The number in the two bytes at `at`; the part is refused there if the file ends before they do.
-pub fn field16(part: ElfPart, bytes: &[u8], at: usize) -> Result<u16, ElfBad>
-    ensures { Reads (λ x. x) result (reading.field (part_place part) bytes.now at 2) }
+pub fn field16(part: ElfPart, bytes: &[u8], at: usize) -> Result<u16, Broken>
+    ensures { reading.Reads broken_part (λ x. x) result
+        (reading.field (part_place part) bytes.now at 2) }
 {
     le16(bytes, at).ok_or(broken(part, at))
 }
 
 /// The number in the four bytes at `at`; the part is refused there if the file ends before they do.
-pub fn field32(part: ElfPart, bytes: &[u8], at: usize) -> Result<u32, ElfBad>
-    ensures { Reads (λ x. x) result (reading.field (part_place part) bytes.now at 4) }
+pub fn field32(part: ElfPart, bytes: &[u8], at: usize) -> Result<u32, Broken>
+    ensures { reading.Reads broken_part (λ x. x) result
+        (reading.field (part_place part) bytes.now at 4) }
 {
     le32(bytes, at).ok_or(broken(part, at))
 }

@@ -5,26 +5,26 @@ ghost use Rattle.std.specs.Prelude.{◌≡◌, ◌+◌, ◌*◌, ◌<◌, ◌≤
 ghost use Rattle.std.specs.List.{list_any, fold};
 ghost use Rattle.byte_view.specs.ElfLoads.{bytes_from};
 ghost use Rattle.byte_view.specs.ElfSymbols as definition;
-ghost use Rattle.elf_reader.specs.Elf.{load_of};
-ghost use Rattle.elf_reader.specs.Dynamic.{entry_of};
+ghost use Rattle.byte_view.specs.Reading.{Reads};
+ghost use Rattle.elf_reader.specs.Elf.{dynamic_entry, load_of};
 ghost use Rattle.elf_reader.specs.Loads.{AreSound};
-ghost use Rattle.elf_reader.specs.Refusals.{Reads};
+ghost use Rattle.elf_reader.specs.Refusals.{broken_part};
 
 use crate::dynamic::{DT_GNU_HASH, DT_HASH, first_of};
 use crate::elf::Load;
 use crate::entry::Entry;
 use crate::fields::{broken, number32};
 use crate::loads::{range_from, table_place};
-use crate::part::{ElfBad, ElfPart};
+use crate::part::{Broken, ElfPart};
 
 /// What a word leaves by 2 that ends a chain of the GNU linker's table.
 const CHAIN_END: u32 = 1;
 
 /// How many symbols there are: by `DT_HASH`, else by `DT_GNU_HASH`, else none.
-pub fn symbol_count(bytes: &[u8], loads: &[Load], table: &[Entry]) -> Result<u64, ElfBad>
+pub fn symbol_count(bytes: &[u8], loads: &[Load], table: &[Entry]) -> Result<u64, Broken>
     requires { AreSound (length bytes.now) loads.now }
-    ensures { Reads (λ x. x) result
-        (definition.symbol_count bytes.now (map load_of loads.now) (map entry_of table.now)) }
+    ensures { Reads broken_part (λ x. x) result
+        (definition.symbol_count bytes.now (map load_of loads.now) (map dynamic_entry table.now)) }
 {
     if let Some(hash) = first_of(table, DT_HASH) {
         return hash_count(bytes, loads, hash);
@@ -37,10 +37,10 @@ pub fn symbol_count(bytes: &[u8], loads: &[Load], table: &[Entry]) -> Result<u64
 
 /// The number of chains of a hash table, which stands behind the number of its buckets: one for each symbol.
 #[tactic(auto, unfolding(byte_view::specs::ElfSymbols::hash_count))]
-fn hash_count(bytes: &[u8], loads: &[Load], entry: Entry) -> Result<u64, ElfBad>
+fn hash_count(bytes: &[u8], loads: &[Load], entry: Entry) -> Result<u64, Broken>
     requires { AreSound (length bytes.now) loads.now }
-    ensures { Reads (λ x. x) result
-        (definition.hash_count bytes.now (map load_of loads.now) (entry_of entry)) }
+    ensures { Reads broken_part (λ x. x) result
+        (definition.hash_count bytes.now (map load_of loads.now) (dynamic_entry entry)) }
 {
     let at = table_place(ElfPart::Symbols, bytes.len(), loads, entry, 4, 4)?;
     Ok(u64::from(number32(bytes, at)))
@@ -49,10 +49,10 @@ fn hash_count(bytes: &[u8], loads: &[Load], entry: Entry) -> Result<u64, ElfBad>
 /// How many symbols a GNU hash table counts: those before the first that is hashed, and those up to the end of the chain
 /// that begins last.
 #[tactic(auto, unfolding(byte_view::specs::ElfSymbols::gnu_hash_count, byte_view::specs::ElfSymbols::behind_buckets))]
-fn gnu_hash_count(bytes: &[u8], loads: &[Load], entry: Entry) -> Result<u64, ElfBad>
+fn gnu_hash_count(bytes: &[u8], loads: &[Load], entry: Entry) -> Result<u64, Broken>
     requires { AreSound (length bytes.now) loads.now }
-    ensures { Reads (λ x. x) result
-        (definition.gnu_hash_count bytes.now (map load_of loads.now) (entry_of entry)) }
+    ensures { Reads broken_part (λ x. x) result
+        (definition.gnu_hash_count bytes.now (map load_of loads.now) (dynamic_entry entry)) }
 {
     let at = table_place(ElfPart::Symbols, bytes.len(), loads, entry, 0, 12)?;
     let bucket_count = u64::from(number32(bytes, at));
@@ -93,12 +93,13 @@ fn behind_chain(
     chains: u64,
     first: u32,
     symbol: u32,
-) -> Result<u64, ElfBad>
+) -> Result<u64, Broken>
     requires sound { AreSound (length bytes.now) loads.now }
     requires hashed { first ≤ symbol }
     requires near { chains < 2 ^ 40 }
-    ensures { Reads (λ x. x) result
-        (definition.behind_chain bytes.now (map load_of loads.now) (entry_of entry) (entry.value + chains) first symbol) }
+    ensures { Reads broken_part (λ x. x) result
+        (definition.behind_chain bytes.now (map load_of loads.now) (dynamic_entry entry)
+        (entry.value + chains) first symbol) }
 {
     let offset = chains + 4 * u64::from(symbol - first);
     match chain_from(bytes, loads, entry.value, offset) {
@@ -111,7 +112,8 @@ fn behind_chain(
 fn chain_from(bytes: &[u8], loads: &[Load], addr: u64, offset: u64) -> Option<usize>
     requires { AreSound (length bytes.now) loads.now }
     ensures chain { result
-        ≡ option_and_then definition.chain_length (bytes_from bytes.now (map load_of loads.now) (addr + offset)) }
+        ≡ option_and_then definition.chain_length
+        (bytes_from bytes.now (map load_of loads.now) (addr + offset)) }
     ensures within { IfSome result (λ n. 4 * n ≤ length bytes.now) }
 {
     let range = range_from(bytes, loads, addr, offset)?;

@@ -5,10 +5,11 @@ ghost use Rattle.byte_view.specs.Numbers.{le};
 ghost use Rattle.byte_view.specs.Reading.{field_where};
 ghost use Rattle.byte_view.specs.ElfLoads as definition;
 ghost use Rattle.byte_view.specs.ElfParts as parts;
-ghost use Rattle.elf_reader.specs.Refusals.{Reads};
+ghost use Rattle.byte_view.specs.Reading.{Reads};
+ghost use Rattle.elf_reader.specs.Refusals.{broken_part};
 
 use crate::fields::{field8, field16, field32, must, number32, number64};
-use crate::part::{ElfBad, ElfPart};
+use crate::part::{Broken, ElfPart};
 
 /// The first four bytes of an ELF file: 0x7F and `ELF`.
 const MAGIC: u32 = 0x464C_457F;
@@ -44,8 +45,8 @@ pub struct Headers {
 /// Asks that the file is a shared library of 64 bits for RISC-V, lowest byte first, without compressed instructions
 /// ('ELF Identification'; RISC-V psABI, 'File Header').
 #[tactic(auto, unfolding(byte_view::specs::ElfLoads::identified))]
-pub fn identified(bytes: &[u8]) -> Result<(), ElfBad>
-    ensures { Reads (λ _. le bytes.now 48 4) result (definition.identified bytes.now) }
+pub fn identified(bytes: &[u8]) -> Result<(), Broken>
+    ensures { Reads broken_part (λ _. le bytes.now 48 4) result (definition.identified bytes.now) }
 {
     let magic = field32(ElfPart::Ident, bytes, 0)?;
     must(magic == MAGIC, ElfPart::Ident, 0)?;
@@ -65,8 +66,9 @@ pub fn identified(bytes: &[u8]) -> Result<(), ElfBad>
 
 /// Where the program headers stand; they are all in the file.
 #[tactic(auto, unfolding(byte_view::specs::ElfLoads::program_headers))]
-pub fn program_headers(bytes: &[u8]) -> Result<Headers, ElfBad>
-    ensures headers { Reads (λ h. (h.start, h.count)) result (definition.program_headers bytes.now) }
+pub fn program_headers(bytes: &[u8]) -> Result<Headers, Broken>
+    ensures headers { Reads broken_part (λ h. (h.start, h.count)) result
+        (definition.program_headers bytes.now) }
     ensures within { IfOk result (λ h. 0 < h.count → h.start + 56 * h.count ≤ length bytes.now) }
 {
     let size = field16(ElfPart::ProgramHeaders, bytes, 54)?;

@@ -15,8 +15,5 @@ mod relocations;
 mod symbols;
 
 pub use elf::{Elf, Load, Loads, Relocation, Relocations, Symbol, Symbols};
-pub use part::{ElfBad, ElfPart};
+pub use part::{ElfBad, ElfPart, parts_are_where_defined};
 pub use reader::read_elf;
-
-#[cfg(test)]
-mod tests;

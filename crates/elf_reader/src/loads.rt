@@ -4,16 +4,16 @@ ghost use Rattle.std.specs.Prelude.{◌≡◌, ◌+◌, ◌*◌, ◌<◌, ◌≤
 ghost use Rattle.std.specs.List.Sorted.{IsNonDecreasingBy, IsPartitionPoint};
 ghost use Rattle.byte_view.specs.ElfLoads as definition;
 ghost use Rattle.byte_view.specs.ElfSymbols as symbols;
-ghost use Rattle.elf_reader.specs.Dynamic.{entry_of};
-ghost use Rattle.elf_reader.specs.Elf.{load_of};
+ghost use Rattle.byte_view.specs.Reading.{Reads};
+ghost use Rattle.elf_reader.specs.Elf.{dynamic_entry, load_of};
 ghost use Rattle.elf_reader.specs.Loads.{AreSound, file_end};
-ghost use Rattle.elf_reader.specs.Refusals.{Reads, part_place};
+ghost use Rattle.elf_reader.specs.Refusals.{broken_part, refusal, part_place};
 
 use crate::elf::{Load, Loads};
 use crate::entry::Entry;
 use crate::fields::{broken, must, number32, number64};
 use crate::headers::{HEADER_SIZE, Headers, header_type};
-use crate::part::{ElfBad, ElfPart};
+use crate::part::{Broken, ElfBad, ElfPart};
 use bound_base::Rights;
 use std::alloc::Global;
 
@@ -63,7 +63,7 @@ impl Load {
 /// The loads among the program headers: each lies in the file, below 2^32 in memory, and behind the load before.
 pub fn read_loads(alloc: Global, bytes: &[u8], headers: Headers) -> Result<Loads, ElfBad>
     requires { 0 < headers.count → headers.start + 56 * headers.count ≤ length bytes.now }
-    ensures loads { Reads (map load_of) result
+    ensures loads { Reads refusal (map load_of) result
         (definition.loads bytes.now headers.start headers.count) }
     ensures sound { IfOk result (AreSound (length bytes.now)) }
 {
@@ -82,12 +82,12 @@ pub fn read_loads(alloc: Global, bytes: &[u8], headers: Headers) -> Result<Loads
 
 /// The load of the header at `at`, where the load before ends at the address `end`.
 #[tactic(auto, unfolding(byte_view::specs::ElfLoads::load_at))]
-fn load_at(bytes: &[u8], end: u64, at: usize) -> Result<Load, ElfBad>
+fn load_at(bytes: &[u8], end: u64, at: usize) -> Result<Load, Broken>
     requires { at + 56 ≤ length bytes.now }
-    ensures load { Reads load_of result (definition.load_at bytes.now end at) }
+    ensures load { Reads broken_part load_of result (definition.load_at bytes.now end at) }
     ensures in_file { IfOk result (λ load. load.file_at + load.file_size ≤ length bytes.now) }
     ensures sizes { IfOk result (λ load. load.file_size ≤ load.size) }
-    ensures behind { IfOk result (λ load. end ≤ load.vaddr) }
+    ensures after { IfOk result (λ load. end ≤ load.vaddr) }
     ensures low { IfOk result (λ load. load.vaddr + load.size < 2 ^ 32) }
 {
     let file_at = number64(bytes, at + 8);
@@ -126,9 +126,10 @@ fn rights_at(bytes: &[u8], at: usize) -> Rights
 }
 
 /// Asks that no program header is of thread-local storage.
-pub fn without_tls(bytes: &[u8], headers: Headers) -> Result<(), ElfBad>
+pub fn without_tls(bytes: &[u8], headers: Headers) -> Result<(), Broken>
     requires { 0 < headers.count → headers.start + 56 * headers.count ≤ length bytes.now }
-    ensures { Reads (λ _. 0) result (definition.without_tls bytes.now headers.start headers.count) }
+    ensures { Reads broken_part (λ _. 0) result
+        (definition.without_tls bytes.now headers.start headers.count) }
 {
     for k in 0..headers.count {
         let at = headers.start + HEADER_SIZE * k;
@@ -205,10 +206,11 @@ pub fn table_place(
     entry: Entry,
     offset: u64,
     len: u64,
-) -> Result<usize, ElfBad>
+) -> Result<usize, Broken>
     requires { AreSound size loads.now }
-    ensures place { Reads (λ x. x) result
-        (symbols.table_place (part_place part) (map load_of loads.now) (entry_of entry) (entry.value + offset) len) }
+    ensures place { Reads broken_part (λ x. x) result
+        (symbols.table_place (part_place part) (map load_of loads.now) (dynamic_entry entry)
+        (entry.value + offset) len) }
     ensures within { IfOk result (λ at. at + len ≤ size) }
 {
     if len == 0 {

@@ -1,7 +1,8 @@
 //! The parts of a library file, in the order in which they are read, and why a file is refused.
 
 ghost use Rattle.std.specs.Prelude.{◌≡◌, Some};
-ghost use Rattle.elf_reader.specs.declared.part.ElfBad.TheVariants.{Memory};
+ghost use Rattle.elf_reader.specs.declared.part.ElfBad.TheVariants.{BadElf, Memory};
+ghost use Rattle.elf_reader.specs.Refusals.{PartsAreWhereDefined};
 
 use std::alloc::{AllocError, AllocFailed};
 use std::fmt;
@@ -76,6 +77,25 @@ pub enum ElfBad {
     Memory,
 }
 
+/// A part that is broken, and the file offset of its first field that is missing or wrong: the error of a reader that takes
+/// no memory.
+#[derive(Clone, Copy, Debug)]
+pub struct Broken {
+    pub part: ElfPart,
+    pub at: u64,
+}
+
+impl From<Broken> for ElfBad {
+    ghost from_gives = { λ broken e. e ≡ BadElf broken.part broken.at };
+
+    fn from(broken: Broken) -> ElfBad {
+        ElfBad::BadElf {
+            part: broken.part,
+            at: broken.at,
+        }
+    }
+}
+
 impl From<AllocError> for ElfBad {
     ghost from_gives = { λ _ e. e ≡ Memory };
 
@@ -91,3 +111,9 @@ impl<T: Drop> From<AllocFailed<T>> for ElfBad {
         ElfBad::Memory
     }
 }
+
+/// The parts stand in the order in which the definitions of the format number them. The contract is the law; the call does
+/// nothing.
+pub fn parts_are_where_defined()
+    ensures { PartsAreWhereDefined }
+{}

@@ -1,8 +1,12 @@
 //! A whole library, read from the bytes of its file.
 
+ghost use Rattle.std.specs.Prelude.{◌≡◌, IfErr, IsOk};
+ghost use Rattle.byte_view.specs.ElfLoads as headers;
 ghost use Rattle.byte_view.specs.Library.{library};
+ghost use Rattle.byte_view.specs.Reading.{Reads};
+ghost use Rattle.elf_reader.specs.declared.part.ElfBad.TheVariants.{Memory};
 ghost use Rattle.elf_reader.specs.Elf.{library_of};
-ghost use Rattle.elf_reader.specs.Refusals.{Reads};
+ghost use Rattle.elf_reader.specs.Refusals.{refusal};
 
 use crate::dynamic::{
     DT_INIT, DT_INIT_ARRAY, DT_INIT_ARRAYSZ, dynamic_header, dynamic_table, first_of, value_of,
@@ -20,10 +24,12 @@ use std::alloc::Global;
 ///
 /// `BadElf` names the first part that is broken, of those from `ident` to `relocs`, and the file offset of its first
 /// field that is missing or wrong. `Memory` says that there is no memory for what is read: also where the names of the
-/// symbols have more than 2^30 bytes together.
+/// symbols have more than 2^30 bytes together. It never comes for a file whose headers are broken before the loads.
 #[tactic(auto, unfolding(byte_view::specs::Library::library))]
 pub fn read_elf(alloc: Global, b: &[u8]) -> Result<Elf, ElfBad>
-    ensures { Reads library_of result (library b.now) }
+    ensures library { Reads refusal library_of result (library b.now) }
+    ensures memory { IfErr result (λ bad. bad ≡ Memory
+        → IsOk (headers.identified b.now) × IsOk (headers.program_headers b.now)) }
 {
     identified(b)?;
     let headers = program_headers(b)?;

@@ -3,10 +3,10 @@
 ghost use Rattle.std.specs.Prelude.{◌≡◌, ◌+◌, ◌≤◌, length, map, option_map, ◌*◌, Ok};
 ghost use Rattle.std.specs.List.{range_with_len};
 ghost use Rattle.byte_view.specs.ElfRelocations as definition;
-ghost use Rattle.elf_reader.specs.Elf.{load_of, relocation_of};
-ghost use Rattle.elf_reader.specs.Dynamic.{entry_of};
+ghost use Rattle.byte_view.specs.Reading.{Reads};
+ghost use Rattle.elf_reader.specs.Elf.{dynamic_entry, load_of, relocation_of};
 ghost use Rattle.elf_reader.specs.Loads.{AreSound};
-ghost use Rattle.elf_reader.specs.Refusals.{Reads};
+ghost use Rattle.elf_reader.specs.Refusals.{refusal};
 
 use crate::dynamic::{DT_JMPREL, DT_PLTRELSZ, DT_RELA, DT_RELASZ, first_of, value_of};
 use crate::elf::{Load, Relocation, Relocations};
@@ -28,8 +28,8 @@ pub fn read_relocations(
     table: &[Entry],
 ) -> Result<Relocations, ElfBad>
     requires { AreSound (length bytes.now) loads.now }
-    ensures { Reads (map relocation_of) result
-        (definition.relocations bytes.now (map load_of loads.now) (map entry_of table.now)) }
+    ensures { Reads refusal (map relocation_of) result
+        (definition.relocations bytes.now (map load_of loads.now) (map dynamic_entry table.now)) }
 {
     let own = first_of(table, DT_RELA);
     let mut all = relocation_table(alloc, bytes, loads, own, value_of(table, DT_RELASZ))?;
@@ -49,8 +49,9 @@ fn relocation_table(
     size: u64,
 ) -> Result<Relocations, ElfBad>
     requires { AreSound (length bytes.now) loads.now }
-    ensures { Reads (map relocation_of) result
-        (definition.relocation_table bytes.now (map load_of loads.now) (option_map entry_of entry) size) }
+    ensures { Reads refusal (map relocation_of) result
+        (definition.relocation_table bytes.now (map load_of loads.now)
+        (option_map dynamic_entry entry) size) }
 {
     let Some(entry) = entry else {
         return Ok(Relocations::new(alloc));
@@ -67,8 +68,9 @@ fn listed_relocations(
     count: usize,
 ) -> Result<Relocations, ElfBad>
     requires { at + 24 * count ≤ length bytes.now }
-    ensures { Reads (map relocation_of) result
-        (Ok (map (λ k. definition.relocation_at bytes.now (at + 24 * k)) (range_with_len 0 count))) }
+    ensures { Reads refusal (map relocation_of) result
+        (Ok (map (λ k. definition.relocation_at bytes.now (at + 24 * k))
+        (range_with_len 0 count))) }
 {
     let mut relocations = Relocations::with_capacity(alloc, count)?;
     for k in 0..count {

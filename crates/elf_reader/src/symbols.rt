@@ -1,14 +1,13 @@
 //! The symbols of a library (System V gABI, 'Symbol Table').
 
 ghost use Rattle.std.specs.Prelude.{◌≡◌, ◌+◌, ◌*◌, ◌<◌, ◌≤◌, length, map, IfOk, IfErr};
-ghost use Rattle.byte_view.specs.Reading.{listed};
+ghost use Rattle.byte_view.specs.Reading.{Reads, listed};
 ghost use Rattle.byte_view.specs.ElfParts as parts;
 ghost use Rattle.byte_view.specs.ElfSymbols as definition;
-ghost use Rattle.elf_reader.specs.Elf.{load_of, symbol_of};
-ghost use Rattle.elf_reader.specs.Dynamic.{entry_of};
+ghost use Rattle.elf_reader.specs.Elf.{dynamic_entry, load_of, symbol_of};
 ghost use Rattle.elf_reader.specs.Loads.{AreSound};
 ghost use Rattle.elf_reader.specs.Names.{AreOf};
-ghost use Rattle.elf_reader.specs.Refusals.{Reads};
+ghost use Rattle.elf_reader.specs.Refusals.{broken_part, refusal};
 ghost use Rattle.elf_reader.specs.declared.part.ElfBad.TheVariants.{Memory};
 
 use crate::dynamic::{DT_STRTAB, DT_SYMTAB, first_of};
@@ -18,7 +17,7 @@ use crate::fields::{broken, number8, number16, number32, number64};
 use crate::hashes::symbol_count;
 use crate::loads::table_place;
 use crate::names::{Zeros, find_zeros, name_at};
-use crate::part::{ElfBad, ElfPart};
+use crate::part::{Broken, ElfBad, ElfPart};
 use bound_base::Bytes;
 use std::alloc::Global;
 
@@ -48,8 +47,9 @@ pub fn read_symbols(
 ) -> Result<Symbols, ElfBad>
     requires sound { AreSound (length bytes.now) loads.now }
     requires header { header + 56 ≤ length bytes.now }
-    ensures { Reads (map symbol_of) result
-        (definition.symbols bytes.now (map load_of loads.now) header (map entry_of table.now)) }
+    ensures { Reads refusal (map symbol_of) result
+        (definition.symbols bytes.now (map load_of loads.now) header
+        (map dynamic_entry table.now)) }
 {
     let count = symbol_count(bytes, loads, table)?;
     if count == 0 {
@@ -71,8 +71,9 @@ fn symbols_of(
     requires sound { AreSound (length bytes.now) loads.now }
     requires header { header + 56 ≤ length bytes.now }
     requires some { 0 < count }
-    ensures { Reads (map symbol_of) result
-        (definition.symbols_of bytes.now (map load_of loads.now) header (map entry_of table.now) count) }
+    ensures { Reads refusal (map symbol_of) result
+        (definition.symbols_of bytes.now (map load_of loads.now) header
+        (map dynamic_entry table.now) count) }
 {
     let missing = broken(ElfPart::Symbols, header + 8);
     let symbols = first_of(table, DT_SYMTAB).ok_or(missing)?;
@@ -80,20 +81,21 @@ fn symbols_of(
     let at = symbols_place(bytes.len(), loads, symbols, count)?;
     table_place(ElfPart::Symbols, bytes.len(), loads, strings, 0, 1)?;
     let zeros = find_zeros(alloc, bytes)?;
-    let place = SymbolTable {
+    let table = SymbolTable {
         at,
         count: count as usize,
         strings: strings.value,
     };
-    check_names(bytes, loads, &zeros, place)?;
-    listed_symbols(alloc, bytes, loads, &zeros, place)
+    check_names(bytes, loads, &zeros, table)?;
+    listed_symbols(alloc, bytes, loads, &zeros, table)
 }
 
 /// Where the table of `count` symbols stands in the file.
-fn symbols_place(size: usize, loads: &[Load], entry: Entry, count: u64) -> Result<usize, ElfBad>
+fn symbols_place(size: usize, loads: &[Load], entry: Entry, count: u64) -> Result<usize, Broken>
     requires { AreSound size loads.now }
-    ensures place { Reads (λ x. x) result
-        (definition.table_place parts.symbols (map load_of loads.now) (entry_of entry) entry.value (24 * count)) }
+    ensures place { Reads broken_part (λ x. x) result
+        (definition.table_place parts.symbols (map load_of loads.now) (dynamic_entry entry)
+        entry.value (24 * count)) }
     ensures within { IfOk result (λ at. at + 24 * count ≤ size) }
 {
     match count.checked_mul(SYMBOL_SIZE as u64) {
@@ -108,17 +110,17 @@ fn check_names(
     bytes: &[u8],
     loads: &[Load],
     zeros: &Zeros,
-    place: SymbolTable,
+    table: SymbolTable,
 ) -> Result<(), ElfBad>
     requires sound { AreSound (length bytes.now) loads.now }
     requires zeros { AreOf bytes.now zeros.now.from_block.items }
-    requires within { place.at + 24 * place.count ≤ length bytes.now }
+    requires within { table.at + 24 * table.count ≤ length bytes.now }
     ensures { IfErr result (λ e. e ≡ Memory) }
 {
     let mut total = 0;
-    for k in 0..place.count {
-        let name = number32(bytes, place.at + SYMBOL_SIZE * k);
-        let Some(name) = name_at(bytes, loads, zeros, place.strings, u64::from(name)) else {
+    for k in 0..table.count {
+        let name = number32(bytes, table.at + SYMBOL_SIZE * k);
+        let Some(name) = name_at(bytes, loads, zeros, table.strings, u64::from(name)) else {
             return Ok(());
         };
         total += name.len();
@@ -135,18 +137,19 @@ fn listed_symbols(
     bytes: &[u8],
     loads: &[Load],
     zeros: &Zeros,
-    place: SymbolTable,
+    table: SymbolTable,
 ) -> Result<Symbols, ElfBad>
     requires sound { AreSound (length bytes.now) loads.now }
     requires zeros { AreOf bytes.now zeros.now.from_block.items }
-    requires within { place.at + 24 * place.count ≤ length bytes.now }
-    ensures { Reads (map symbol_of) result
-        (listed (λ k. definition.symbol_at bytes.now (map load_of loads.now) place.strings (place.at + 24 * k)) place.count) }
+    requires within { table.at + 24 * table.count ≤ length bytes.now }
+    ensures { Reads refusal (map symbol_of) result
+        (listed (λ k. definition.symbol_at bytes.now (map load_of loads.now) table.strings
+        (table.at + 24 * k)) table.count) }
 {
-    let mut symbols = Symbols::with_capacity(alloc, place.count)?;
-    for k in 0..place.count {
-        let at = place.at + SYMBOL_SIZE * k;
-        let symbol = symbol_at(alloc, bytes, loads, zeros, place.strings, at)?;
+    let mut symbols = Symbols::with_capacity(alloc, table.count)?;
+    for k in 0..table.count {
+        let at = table.at + SYMBOL_SIZE * k;
+        let symbol = symbol_at(alloc, bytes, loads, zeros, table.strings, at)?;
         symbols.push(symbol)?;
     }
     Ok(symbols)
@@ -165,7 +168,7 @@ fn symbol_at(
     requires sound { AreSound (length bytes.now) loads.now }
     requires zeros { AreOf bytes.now zeros.now.from_block.items }
     requires within { at + 24 ≤ length bytes.now }
-    ensures { Reads symbol_of result
+    ensures { Reads refusal symbol_of result
         (definition.symbol_at bytes.now (map load_of loads.now) strings at) }
 {
     let offset = u64::from(number32(bytes, at));

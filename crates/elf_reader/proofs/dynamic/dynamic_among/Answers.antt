@@ -13,7 +13,7 @@ pub returns-in_err-must-clause-header : goal.returns-in_err-must-clause-header
 returns-in_err-must-clause-header c =
     let p = err_from_is_err_and c.from_residual.result c.from_residual.ensures.1 in
     let here : is_of_type pt_dynamic c.args.bytes.now (c.args.headers.start + 56 * c.loop-k.k) ≡ true = eq-eqb _ 2 (sym c.header_type.ensures ∙ c.if-header_type-eq-PT_DYNAMIC.true) in
-    rw (p.1, p.2) (among_refused c.args.bytes.now c.args.headers.start c.in_err-must.field-0.0 c.loop-k.k c.args.headers.count c.loop-k.found c.is_none.result c.is_none.ensures c.loop-k.invariant.found c.loop-k-test.true here c.in_err-must.ensures)
+    rw (p.1, p.2) (among_refused c.args.bytes.now c.args.headers.start _ c.loop-k.k c.args.headers.count c.loop-k.found c.is_none.result c.is_none.ensures c.loop-k.invariant.found c.loop-k-test.true here c.in_err-must.ensures)
 
 pub loop-k-preserved : goal.loop-k-preserved
 loop-k-preserved c =

@@ -1,7 +1,7 @@
 use Rattle.std.proofs.Common.{◌+◌, ◌*◌, map, ◌∙◌}
 use Rattle.byte_view.specs.ElfSymbols.{words_at}
 use Rattle.elf_reader.specs.Elf.{load_of}
-use Rattle.elf_reader.specs.Dynamic.{entry_of}
+use Rattle.elf_reader.specs.Elf.{dynamic_entry}
 use Rattle.elf_reader.proofs.Buckets.{some_hashed, none_hashed, gnu_counted, by_chain, without_chain}
 use Rattle.elf_reader.proofs.hashes.gnu_hash_count.Goals as goal
 
@@ -9,7 +9,7 @@ pub returns-in-Some : goal.returns-in-Some
 returns-in-Some c =
     let bytes = c.args.bytes.now in
     let loads = map load_of c.args.loads.now in
-    let entry = entry_of c.args.entry in
+    let entry = dynamic_entry c.args.entry in
     let first = c.number32-first.result in
     let count = c.from-bucket_count.result in
     let filters = c.from.result in
@@ -21,7 +21,7 @@ pub returns-in-None : goal.returns-in-None
 returns-in-None c =
     let bytes = c.args.bytes.now in
     let loads = map load_of c.args.loads.now in
-    let entry = entry_of c.args.entry in
+    let entry = dynamic_entry c.args.entry in
     let first = c.number32-first.result in
     let count = c.from-bucket_count.result in
     let filters = c.from.result in
