@@ -1,7 +1,7 @@
 -- A fault of native code names its pc.
 use Rattle.std.proofs.Common.{◌≡◌, ◌≢◌, ◌∙◌, ℕ, ◌<◌, Bool, true, false, cond, List, Option, Some, None, nat_eq, refl, sym, ap, subst}
 use Rattle.native_memory.specs.AddressSpace.{AddressSpace}
-use Rattle.native_heap.specs.HostFunctions.{called}
+use Rattle.native_heap.specs.Calls.{called}
 use Rattle.rv_machine.specs.declared.outcome.Step.{Step}
 use Rattle.rv_machine.specs.declared.outcome.Step.TheVariants.{Went, At, Fault}
 use Rattle.rv_machine.specs.declared.registers.Regs.{Regs}

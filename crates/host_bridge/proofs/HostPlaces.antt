@@ -1,7 +1,7 @@
 -- Where host functions stand.
 use Rattle.std.proofs.Common.{◌≡◌, ◌∙◌, ℕ, ◌+◌, ◌-◌, ◌*◌, ◌/◌, ◌<◌, ◌≤◌, Bool, true, false, ◌&&◌, cond, length, Option, Some, None, arith, refl, sym, ap, subst}
 use Rattle.std.proofs.lemmas.Bool.{and_from, and_parts, lt-ltb, ltb-true, eq-eqb, eqb-true, cases_Bool}
-use Rattle.native_heap.specs.HostFunctions.{host_functions}
+use Rattle.host_functions.specs.HostFunctions.{host_functions}
 use Rattle.elf_binder.specs.Modules.{host_place}
 use Rattle.host_bridge.specs.Places.{host_number}
 use Rattle.host_bridge.specs.Laws.{StandsAt, HostFunctionsHavePlaces}

@@ -4,7 +4,7 @@ use Rattle.bound_base.specs.declared.ending.Ending.{Ending}
 use Rattle.bound_base.specs.declared.ending.Ending.TheVariants.{Spent}
 use Rattle.bound_base.specs.declared.limits.Lane.{Lane}
 use Rattle.native_memory.specs.AddressSpace.{AddressSpace}
-use Rattle.native_heap.specs.HostFunctions as heap
+use Rattle.host_functions.specs.HostFunctions as heap
 use Rattle.elf_binder.specs.Modules as binder
 use Rattle.rv_machine.specs.declared.registers.Regs.{Regs}
 use Rattle.host_bridge.specs.Places.{host_number}

@@ -1,7 +1,7 @@
 -- One event of native code: an instruction, or a host function.
 use Rattle.std.specs.Prelude.{ℕ, List, slice_index, Option, Some, None, ◌==◌, if◌then◌else◌}
 use Rattle.native_memory.specs.AddressSpace.{AddressSpace}
-use Rattle.native_heap.specs.HostFunctions.{called}
+use Rattle.native_heap.specs.Calls.{called}
 use Rattle.rv_machine.specs.declared.outcome.Step.{Step}
 use Rattle.rv_machine.specs.declared.outcome.Step.TheVariants.{Went, At, Fault}
 use Rattle.rv_machine.specs.declared.registers.Regs.{Regs}

@@ -2,7 +2,7 @@
 use Rattle.std.specs.Prelude.{ℕ, ◌+◌, ◌-◌, ◌/◌, nat_lt, ◌&&◌, ◌==◌, length, Option, Some, None, if◌then◌else◌}
 use Rattle.bound_base.specs.declared.limits.Lane.{Lane}
 use Rattle.bound_base.specs.Limits.{standard}
-use Rattle.native_heap.specs.HostFunctions.{host_functions}
+use Rattle.host_functions.specs.HostFunctions.{host_functions}
 use Rattle.elf_binder.specs.Modules.{host_place}
 
 -- where native code returns to when it is done

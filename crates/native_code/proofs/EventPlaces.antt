@@ -1,7 +1,7 @@
 -- A fault of native code names its pc, and so does an arrival.
 use Rattle.std.proofs.Common.{◌≡◌, ◌∙◌, ℕ, List, Option, Some, None, refl, sym, ap}
 use Rattle.native_memory.specs.AddressSpace.{AddressSpace}
-use Rattle.native_heap.specs.HostFunctions.{called}
+use Rattle.native_heap.specs.Calls.{called}
 use Rattle.rv_machine.specs.declared.outcome.Step.{Step}
 use Rattle.rv_machine.specs.declared.outcome.Step.TheVariants.{Went, At, Fault}
 use Rattle.rv_machine.specs.Machine.{State, state_of, rv_step}

@@ -6,11 +6,11 @@ use Rattle.std.proofs.lemmas.List.{take_all, length-replicate}
 use Rattle.std.proofs.lemmas.Bool.Decides.{nat_tests}
 use Rattle.native_memory.specs.AddressSpace.{Block, AddressSpace, lowest, is_heap}
 use Rattle.native_memory.specs.Ranges.{covers, may_read, open_bytes, part, bytes_at}
-use Rattle.native_memory.specs.Placement.{with_behind, stands_at, block_with, ended, up_to_16}
+use Rattle.native_memory.specs.Placement.{with_behind, stands_at, block_with, heap_block, ended, up_to_16}
 use Rattle.native_memory.specs.Sound.{IsSound}
 use Rattle.native_memory.specs.Search.{FailsAll}
 use Rattle.native_memory.proofs.Picks.{find_fails, asks_covers, asks_base}
-use Rattle.native_heap.specs.Allocation.{heap_placed, heap_block, given, malloc, realloc, free}
+use Rattle.native_heap.specs.Allocation.{heap_placed, given, malloc, realloc, free}
 use Rattle.native_heap.specs.Laws.{blocks_after, IsNewBlock, NewBlocksAreNew, IsNoHeapBase, OnlyHeapBlocksAreFreed}
 use Rattle.native_heap.proofs.Refusals.{some_pair}
 use Rattle.native_heap.proofs.Found.{fails_before, find_behind}

@@ -6,6 +6,6 @@ pub mod Moved
 pub mod ReadBack
 pub mod TextsCopied
 pub mod Freed
-pub mod OtherBlocks
+pub mod HeapAt
 pub mod CallsKeep
-pub mod Names
+pub mod Defined

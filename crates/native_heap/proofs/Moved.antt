@@ -1,24 +1,25 @@
 -- A new block can be written as soon as it is placed, and the old one is still there to be ended.
-use Rattle.std.proofs.Common.{◌≡◌, ◌∙◌, ℕ, ◌+◌, ◌≤◌, ◌<◌, ◌≢◌, nat_eq, Bool, true, false, cond, if◌then◌else◌, List, [], ◌∷◌, ◌++◌, length, replicate, Option, Some, None, arith, refl}
-use Rattle.std.specs.Prelude.{min, is_some, IsSome, option_map, option_and_then}
+use Rattle.std.proofs.Common.{◌≡◌, ◌∙◌, ℕ, ◌+◌, ◌≤◌, ◌<◌, ◌≢◌, nat_eq, Bool, true, false, cond, if◌then◌else◌, List, [], ◌∷◌, ◌++◌, length, replicate, take, Option, Some, None, arith, refl}
+use Rattle.std.specs.Prelude.{is_some, IsSome, option_map, option_and_then}
 use Rattle.std.specs.List.{find}
 use Rattle.std.proofs.lemmas.Bool.Decides.{nat_tests}
+use Rattle.std.proofs.lemmas.List.{length-take}
 use Rattle.native_memory.specs.declared.kind.Kind.TheVariants.{Heap}
-use Rattle.native_memory.specs.AddressSpace.{Block, AddressSpace, lowest, changed, is_heap}
-use Rattle.native_memory.specs.Ranges.{covers, may_read, may_write, open_bytes, part, bytes_at, write_in, with_written, written_at}
-use Rattle.native_memory.specs.Placement.{Does, has_room, with_behind, placed, ended, stands_at, block_with, up_to_16}
+use Rattle.native_memory.specs.AddressSpace.{Block, AddressSpace, data_rights, lowest, changed, is_heap}
+use Rattle.native_memory.specs.Ranges.{covers, may_write, open_bytes, part, bytes_at, write_in, with_written, written_at}
+use Rattle.native_memory.specs.Placement.{Does, has_room, with_behind, placed, ended, stands_at, block_with, heap_contents, up_to_16}
 use Rattle.native_memory.specs.Sound.{IsSound}
 use Rattle.native_memory.proofs.Picks.{asks_covers}
 use Rattle.native_memory.proofs.Kept.{changed_keeps, writes_keep}
 use Rattle.native_heap.specs.Outcome.{◌>>=◌}
-use Rattle.native_heap.specs.Allocation.{heap_placed, heap_block, moved, malloc, realloc}
+use Rattle.native_heap.specs.Allocation.{heap_placed, moved, malloc, realloc, realloc_takes}
 use Rattle.native_heap.proofs.Refusals.{answering_done}
 use Rattle.native_heap.proofs.Found.{fails_before, find_behind, find_appended, find_mapped}
 use Rattle.native_heap.proofs.Writing.{written_where_held}
 
 -- the block that `malloc` places
 abbrev pub heap_made : ℕ → ℕ → Block
-heap_made base size = record { base = base; size = size; rights = record { r = true; w = true; x = false }; kind = Heap; contents = Some (replicate size 0) }
+heap_made base size = record { base = base; size = size; rights = data_rights; kind = Heap; contents = Some (replicate size 0) }
 
 with_block_if : (room : Bool) (old new : AddressSpace) (block : Block) (next : ℕ) → (if room then Some (with_behind old block next) else None) ≡ Some new → new ≡ with_behind old block next
 with_block_if true old new block next is = cc
@@ -104,26 +105,31 @@ moved_done_if (Some mid) old p size front is sound live fits =
 pub moved_done : (old : AddressSpace) (p size : ℕ) (front : List ℕ) → IsSound old → IsSome (block_with old p) → length front ≤ size → IsSome (moved old p front (heap_placed old size))
 moved_done old p size front sound live fits = moved_done_if (heap_placed old size) old p size front refl sound live fits
 
-found_heap : (found : Option Block) → IsSome (option_and_then (λ block. if is_heap block then Some block else None) found) → IsSome found
-found_heap None some = some
-found_heap (Some block) some = refl
+found_heap : (found : Option Block) (bytes : List ℕ)
+    → option_and_then (λ block. block.contents) (option_and_then (λ block. if is_heap block then Some block else None) found) ≡ Some bytes → IsSome found
+found_heap None bytes is = cc
+found_heap (Some block) bytes is = refl
 
--- a live heap block is a live block
-pub heap_is_live : (space : AddressSpace) (p : ℕ) (block : Block) → heap_block space p ≡ Some block → IsSome (block_with space p)
-heap_is_live space p block is = found_heap (block_with space p) (rw is refl)
+-- where a live heap block's contents are found a live block is
+pub contents_are_live : (space : AddressSpace) (p : ℕ) (bytes : List ℕ) → heap_contents space p ≡ Some bytes → IsSome (block_with space p)
+contents_are_live space p bytes is = found_heap (block_with space p) bytes is
 
-realloc_if : (null : Bool) (found : Option Block) (space : AddressSpace) (p size old_size : ℕ) (front : List ℕ) → null ≡ false → heap_block space p ≡ found
-    → option_map (λ block. block.size) found ≡ Some old_size → bytes_at may_read space p (min old_size size) ≡ Some front → IsSound space → length front ≤ size
-    → IsSome (cond null (malloc space size) (found >>= λ block. bytes_at may_read space p (min block.size size) >>= λ front. moved space p front (heap_placed space size)))
-realloc_if true found space p size old_size front here is sized read sound fits = cc
-realloc_if false None space p size old_size front here is sized read sound fits = cc
-realloc_if false (Some block) space p size old_size front here is sized read sound fits =
-    let same : block.size ≡ old_size = cc in
-    rw (same, read) (moved_done space p size front sound (heap_is_live space p block is) fits)
+pub within : (size : ℕ) (bytes : List ℕ) → length (take size bytes) ≤ size
+within size bytes = simp length-take (omega arith)
 
--- `realloc` of a live heap block whose front can be read faults nowhere
-pub realloc_done : (space : AddressSpace) (p size old_size : ℕ) (front : List ℕ) → p ≢ 0 → option_map (λ block. block.size) (heap_block space p) ≡ Some old_size
-    → bytes_at may_read space p (min old_size size) ≡ Some front → IsSound space → length front ≤ size → IsSome (realloc space p size)
+realloc_if : (null : Bool) (space : AddressSpace) (p size : ℕ) (bytes : List ℕ) → null ≡ false → heap_contents space p ≡ Some bytes → IsSound space
+    → IsSome (cond null (malloc space size) (heap_contents space p >>= λ bytes. moved space p (take size bytes) (heap_placed space size)))
+realloc_if true space p size bytes here is sound = cc
+realloc_if false space p size bytes here is sound =
+    rw is (moved_done space p size (take size bytes) sound (contents_are_live space p bytes is) (within size bytes))
+
+-- `realloc` of a live heap block faults nowhere
+pub realloc_done : (space : AddressSpace) (p size : ℕ) (bytes : List ℕ) → p ≢ 0 → heap_contents space p ≡ Some bytes → IsSound space → IsSome (realloc space p size)
 unfolding realloc
-realloc_done space p size old_size front here sized read sound fits =
-    realloc_if (nat_eq p 0) (heap_block space p) space p size old_size front (grind (arith, nat_tests)) refl sized read sound fits
+realloc_done space p size bytes here is sound = realloc_if (nat_eq p 0) space p size bytes (grind (arith, nat_tests)) is sound
+
+-- so memory may be wanting for it
+pub realloc_wants : (space : AddressSpace) (p size : ℕ) (bytes : List ℕ) → p ≢ 0 → heap_contents space p ≡ Some bytes → IsSound space → realloc_takes space p size ≡ true
+realloc_wants space p size bytes here is sound =
+    let null : nat_eq p 0 ≡ false = grind (arith, nat_tests) in
+    rw null (realloc_done space p size bytes here is sound)

@@ -1,18 +1,18 @@
 -- Calls for which memory is wanting.
-use Rattle.std.proofs.Common.{◌≡◌, ap, Option, Some, None, Result, Ok, Err, IfErr, refl}
+use Rattle.std.proofs.Common.{◌≡◌, ap, Bool, true, Option, Some, None, Result, Ok, Err, IfErr, refl}
 use Rattle.std.specs.Prelude.{ℕ, IsSome, IsErrAnd}
 use Rattle.native_memory.specs.AddressSpace.{AddressSpace}
 use Rattle.native_heap.specs.declared.refusal.HeapBad.{HeapBad}
 use Rattle.native_heap.specs.declared.refusal.HeapBad.TheVariants.{Memory}
-use Rattle.native_heap.specs.Outcome.{Refuses, answering}
+use Rattle.native_heap.specs.Outcome.{FailsBy, answering}
 
-refuses_memory : {T : Type 0} (bad : HeapBad) (outcome : Option T) → bad ≡ Memory → IsSome outcome → Refuses bad outcome
-refuses_memory bad outcome memory some = rw memory some
+fails_memory : {T : Type 0} (bad : HeapBad) (outcome : Option T) (takes : Bool) → bad ≡ Memory → takes ≡ true → FailsBy bad outcome takes
+fails_memory bad outcome takes memory some = rw memory some
 
 -- what a `?` answers where memory is wanting
-pub refused : {T X : Type 0} (r : Result X HeapBad) (outcome : Option T) → IsErrAnd r (λ bad. bad ≡ Memory) → IsSome outcome → IfErr r (λ bad. Refuses bad outcome)
-refused (Ok x) outcome memory some = absurd memory
-refused (Err bad) outcome memory some = refuses_memory bad outcome memory some
+pub refused : {T X : Type 0} (r : Result X HeapBad) (outcome : Option T) (takes : Bool) → IsErrAnd r (λ bad. bad ≡ Memory) → takes ≡ true → IfErr r (λ bad. FailsBy bad outcome takes)
+refused (Ok x) outcome takes memory some = absurd memory
+refused (Err bad) outcome takes memory some = fails_memory bad outcome takes memory some
 
 pub answering_done : (answer : ℕ) (change : Option AddressSpace) → IsSome change → IsSome (answering answer change)
 answering_done answer None some = some

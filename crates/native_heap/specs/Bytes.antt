@@ -1,5 +1,6 @@
--- Copying, comparing and filling ranges of bytes (ISO/IEC 9899 7.24). Where that standard leaves room: `memcpy` is `memmove` also
--- where its ranges overlap; a comparison answers -1, 0 or 1, as a word of 64 bits; a range of no bytes may be anywhere.
+-- Copying, comparing and filling ranges of bytes (ISO/IEC 9899 7.24). Where that standard leaves
+-- room: `memcpy` is `memmove` also where its ranges overlap; a comparison answers -1, 0 or 1, as a
+-- word of 64 bits; a range of no bytes may be anywhere.
 use Rattle.std.specs.Prelude.{ℕ, ◌-◌, ◌%◌, ◌^◌, replicate, Some}
 use Rattle.std.specs.Ordering.{nat_cmp}
 use Rattle.std.specs.declared.cmp.Ordering.{Ordering}
@@ -11,7 +12,8 @@ use Rattle.native_heap.specs.Outcome.{Outcome, ◌>>=◌, answering}
 
 -- `memcpy` and `memmove` (7.24.2.1, 7.24.2.2): the bytes that stood at `from` stand at `to`
 unfoldable pub memmove : AddressSpace → ℕ → ℕ → ℕ → Outcome
-memmove space to from len = bytes_at may_read space from len >>= λ bytes. answering to (written_at space to bytes)
+memmove space to from len =
+    bytes_at may_read space from len >>= λ bytes. answering to (written_at space to bytes)
 
 -- `memset` (7.24.6.1): a range of one byte, the lowest of a word
 unfoldable pub memset : AddressSpace → ℕ → ℕ → ℕ → Outcome

@@ -2,5 +2,5 @@ pub mod Outcome
 pub mod Allocation
 pub mod Bytes
 pub mod Texts
-pub mod HostFunctions
+pub mod Calls
 pub mod Laws

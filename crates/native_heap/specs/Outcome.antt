@@ -1,5 +1,5 @@
 -- What a host function comes to.
-use Rattle.std.specs.Prelude.{◌≡◌, ℕ, Option, None, IsSome, option_map, option_and_then}
+use Rattle.std.specs.Prelude.{◌≡◌, ℕ, Bool, true, Option, None, option_map, option_and_then}
 use Rattle.native_memory.specs.AddressSpace.{AddressSpace}
 use Rattle.native_heap.specs.declared.refusal.HeapBad.{HeapBad}
 use Rattle.native_heap.specs.declared.refusal.HeapBad.TheVariants.{Fault, Memory}
@@ -20,7 +20,8 @@ reading space answer = option_map (λ value. (value, space)) answer
 abbrev pub answering : ℕ → Option AddressSpace → Outcome
 answering answer change = option_map (λ new. (answer, new)) change
 
--- why nothing came of it: it faults; or it doesn't, and memory for it is wanting, which is free
-abbrev pub Refuses : {T : Type 0} → HeapBad → Option T → Type 0
-Refuses Fault outcome = outcome ≡ None
-Refuses Memory outcome = IsSome outcome
+-- why nothing came of it: its outcome is a fault; or memory for it is wanting, which can be only
+-- where the test says that it takes memory
+abbrev pub FailsBy : {T : Type 0} → HeapBad → Option T → Bool → Type 0
+FailsBy Fault outcome takes = outcome ≡ None
+FailsBy Memory outcome takes = takes ≡ true

@@ -1,7 +1,8 @@
--- Texts that end with a zero (ISO/IEC 9899 7.24). A text stands in one block. Where that standard leaves room: `strcpy` copies as
--- `memmove` does, also where the text and the copy overlap; `strcmp` answers -1, 0 or 1, as a word of 64 bits, and asks for no
--- byte behind those that decide.
-use Rattle.std.specs.Prelude.{ℕ, ◌+◌, ◌-◌, Bool, List, [], ◌∷◌, ◌++◌, length, take, drop, Option, Some, None, option_map, if◌then◌else◌, ◌==◌}
+-- Texts that end with a zero (ISO/IEC 9899 7.24). A text stands in one block. Where that standard
+-- leaves room: `strcpy` copies as `memmove` does, also where the text and the copy overlap; `strcmp`
+-- answers -1, 0 or 1, as a word of 64 bits, and asks for no byte after those that decide.
+use Rattle.std.specs.Prelude.{ℕ, ◌+◌, ◌-◌, Bool, List, [], ◌∷◌, ◌++◌, length, take, drop}
+use Rattle.std.specs.Prelude.{Option, Some, None, option_map, if◌then◌else◌, ◌==◌}
 use Rattle.std.specs.List.{position}
 use Rattle.std.specs.Ordering.{nat_cmp}
 use Rattle.native_memory.specs.AddressSpace.{Block, AddressSpace}
@@ -27,26 +28,31 @@ strlen space s = reading space (option_map (λ text. length text) (text_at space
 
 -- `strcpy` (7.24.2.3): the text that stood at `from` stands at `to`, and its zero
 unfoldable pub strcpy : AddressSpace → ℕ → ℕ → Outcome
-strcpy space to from = text_at space from >>= λ text. answering to (written_at space to (text ++ 0 ∷ []))
+strcpy space to from =
+    text_at space from >>= λ text. answering to (written_at space to (text ++ 0 ∷ []))
 
--- the bytes of a block from one of its addresses on, and more behind them; none where it can't be read
+-- the bytes of a block from one of its addresses on, and more after them; none where it can't be read
 abbrev pub then_more : Option (List ℕ) → ℕ → List ℕ → List ℕ
 then_more (Some bytes) at more = drop at bytes ++ more
 then_more None at more = []
 
--- the bytes from an address on, as far as each can be read: to the end of its block, and on in a block that begins there
+-- the bytes from an address on, as far as each can be read: to the end of its block, and on in a
+-- block that begins there
 abbrev pub readable_in : ℕ → List Block → List ℕ
 readable_in addr [] = []
 readable_in addr (block ∷ rest) =
     if covers addr 1 block
-    then then_more (open_bytes may_read block) (addr - block.base) (readable_in (block.base + block.size) rest)
+    then
+    then_more (open_bytes may_read block) (addr - block.base)
+    (readable_in (block.base + block.size) rest)
     else readable_in addr rest
 
 -- the same among the live blocks
 unfoldable pub readable_from : AddressSpace → ℕ → List ℕ
 readable_from space addr = readable_in addr space.blocks
 
--- texts in order: by the first bytes that differ, equal where both end before; None where the bytes end first
+-- texts in order: by the first bytes that differ, equal where both end before; None where the bytes
+-- end first
 abbrev pub text_order : List ℕ → List ℕ → Option ℕ
 text_order [] right = None
 text_order (a ∷ left) [] = None
@@ -56,4 +62,5 @@ text_order (a ∷ left) (b ∷ right) =
 
 -- `strcmp` (7.24.4.2)
 unfoldable pub strcmp : AddressSpace → ℕ → ℕ → Outcome
-strcmp space a b = reading space (text_order (readable_from space a) (readable_from space b))
+strcmp space a b =
+    reading space (text_order (readable_from space a) (readable_from space b))

@@ -1,7 +1,7 @@
 //! Copying, comparing and filling ranges of bytes (ISO/IEC 9899 7.24).
 
-ghost use Rattle.std.specs.Prelude.{◌≡◌, Some, IfOk, IfErr, OnErr};
-ghost use Rattle.native_heap.specs.Outcome.{Refuses};
+ghost use Rattle.std.specs.Prelude.{◌≡◌, false, is_some, Some, IfOk, IfErr, OnErr};
+ghost use Rattle.native_heap.specs.Outcome.{FailsBy};
 ghost use Rattle.native_heap.specs.Bytes.{memmove, memset, memcmp, sign};
 
 use crate::refusal::HeapBad;
@@ -19,8 +19,11 @@ pub fn memmove(
     from: u64,
     len: u64,
 ) -> Result<u64, HeapBad>
-    ensures ok { IfOk result (λ answer. memmove memory.old.space to from len ≡ Some (answer, memory.new.space)) }
-    ensures err { IfErr result (λ bad. Refuses bad (memmove memory.old.space to from len)) }
+    ensures ok { IfOk result (λ answer.
+        memmove memory.old.space to from len ≡ Some (answer, memory.new.space)) }
+    ensures err { IfErr result (λ bad.
+        FailsBy bad (memmove memory.old.space to from len)
+        (is_some (memmove memory.old.space to from len))) }
     ensures unchanged { OnErr result (memory.new ≡ memory.old) }
 {
     let Some(bytes) = memory.contents(from, len) else {
@@ -38,8 +41,11 @@ pub fn memmove(
 /// that is found before any memory is taken.
 #[tactic(auto, using(crate::proofs::Writing::writing), unfolding(crate::specs::Bytes::memset))]
 pub fn memset(alloc: Global, memory: &mut Memory, to: u64, c: u64, len: u64) -> Result<u64, HeapBad>
-    ensures ok { IfOk result (λ answer. memset memory.old.space to c len ≡ Some (answer, memory.new.space)) }
-    ensures err { IfErr result (λ bad. Refuses bad (memset memory.old.space to c len)) }
+    ensures ok { IfOk result (λ answer.
+        memset memory.old.space to c len ≡ Some (answer, memory.new.space)) }
+    ensures err { IfErr result (λ bad.
+        FailsBy bad (memset memory.old.space to c len)
+        (is_some (memset memory.old.space to c len))) }
     ensures unchanged { OnErr result (memory.new ≡ memory.old) }
 {
     if !memory.holds(to, len, true) {
@@ -53,8 +59,9 @@ pub fn memset(alloc: Global, memory: &mut Memory, to: u64, c: u64, len: u64) -> 
 /// Compares two ranges of `len` bytes by the first bytes that differ. It faults where one of them can't be read.
 #[tactic(auto, unfolding(crate::specs::Bytes::memcmp))]
 pub fn memcmp(memory: &Memory, a: u64, b: u64, len: u64) -> Result<u64, HeapBad>
-    ensures ok { IfOk result (λ answer. memcmp memory.now.space a b len ≡ Some (answer, memory.now.space)) }
-    ensures err { IfErr result (λ bad. Refuses bad (memcmp memory.now.space a b len)) }
+    ensures ok { IfOk result (λ answer.
+        memcmp memory.now.space a b len ≡ Some (answer, memory.now.space)) }
+    ensures err { IfErr result (λ bad. FailsBy bad (memcmp memory.now.space a b len) false) }
 {
     match (memory.contents(a, len), memory.contents(b, len)) {
         (Some(left), Some(right)) => Ok(sign(left.cmp(right))),

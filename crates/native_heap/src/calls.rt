@@ -1,14 +1,14 @@
 //! A call of a host function.
 
 ghost use Rattle.std.specs.Prelude.{◌≡◌, ◌<◌, Some, OnOk, IfOk, IfErr, OnErr};
-ghost use Rattle.native_heap.specs.Outcome.{Refuses};
-ghost use Rattle.native_heap.specs.HostFunctions.{outcome, called};
+ghost use Rattle.native_heap.specs.Outcome.{FailsBy};
+ghost use Rattle.native_heap.specs.Calls.{outcome, called, takes_memory, wants_memory};
 
 use crate::allocation::{calloc, free, malloc, realloc};
 use crate::bytes::{memcmp, memmove, memset};
-use crate::functions::{HostFunction, host_function};
 use crate::refusal::HeapBad;
 use crate::texts::{strcmp, strcpy, strlen};
+use host_functions::{HostFunction, host_function};
 use native_memory::Memory;
 use std::alloc::Global;
 
@@ -19,17 +19,17 @@ pub type Regs0 = [u64; 32];
 /// a0; all other registers stay. `errno` is the address of the number of the last error, which `__errno_location` answers.
 ///
 /// `Fault` comes exactly where the function isn't defined for its arguments:
-/// - `realloc` and `free` where a0 isn't 0 or the base of a live heap block, and `realloc` where that block can't be read, as
-///   each can that these functions place;
+/// - `realloc` and `free` where a0 isn't 0 or the base of a live heap block;
 /// - `memcpy`, `memmove`, `memset` and `memcmp` where a range can't be read, or can't be written;
 /// - `strlen` and `strcpy` where the block has no zero from the text on or can't be read, `strcpy` also where the copy can't be
 ///   written;
 /// - `strcmp` where a byte that it needs can't be read;
 /// - `abort` always.
 ///
-/// `Memory` comes where the function would be done and memory for it is wanting. With either, registers and memory are as they
-/// were.
-#[tactic(auto, unfolding(crate::specs::HostFunctions::called))]
+/// `Memory` comes where memory for it is wanting: at `malloc` and `calloc`, and `realloc` of 0, only where there is room for the
+/// block; at the other functions only where they would be done, and at `free`, `memcmp`, `strlen`, `strcmp`,
+/// `__errno_location` and `abort` never. With `Fault` and with `Memory`, registers and memory are as they were.
+#[tactic(auto, unfolding(crate::specs::Calls::called))]
 pub fn call(
     alloc: Global,
     k: u8,
@@ -38,8 +38,11 @@ pub fn call(
     errno: u64,
 ) -> Result<(), HeapBad>
     requires { k < 13 }
-    ensures ok { OnOk result (called k regs.old memory.old.space errno ≡ Some (regs.new, memory.new.space)) }
-    ensures err { IfErr result (λ bad. Refuses bad (called k regs.old memory.old.space errno)) }
+    ensures ok { OnOk result
+        (called k regs.old memory.old.space errno ≡ Some (regs.new, memory.new.space)) }
+    ensures err { IfErr result (λ bad.
+        FailsBy bad (called k regs.old memory.old.space errno)
+        (wants_memory k regs.old memory.old.space)) }
     ensures registers { OnErr result (regs.new ≡ regs.old) }
     ensures memory { OnErr result (memory.new ≡ memory.old) }
 {
@@ -62,8 +65,11 @@ fn answer(
     memory: &mut Memory,
     errno: u64,
 ) -> Result<u64, HeapBad>
-    ensures ok { IfOk result (λ answer. outcome function a b c memory.old.space errno ≡ Some (answer, memory.new.space)) }
-    ensures err { IfErr result (λ bad. Refuses bad (outcome function a b c memory.old.space errno)) }
+    ensures ok { IfOk result (λ answer.
+        outcome function a b c memory.old.space errno ≡ Some (answer, memory.new.space)) }
+    ensures err { IfErr result (λ bad.
+        FailsBy bad (outcome function a b c memory.old.space errno)
+        (takes_memory function a b c memory.old.space)) }
     ensures unchanged { OnErr result (memory.new ≡ memory.old) }
 {
     match function {

@@ -7,20 +7,18 @@
 //! - `memcpy` and `strcpy` copy as `memmove` does, also where the ranges overlap;
 //! - `memcmp` and `strcmp` answer -1, 0 or 1;
 //! - a range of no bytes may be anywhere;
-//! - a text stands in one block, but `strcmp` goes byte by byte, and asks for none behind those that decide;
+//! - a text stands in one block, but `strcmp` goes byte by byte, and asks for none after those that decide;
 //! - what it leaves undefined faults.
 #![tactic(auto)]
 
 mod allocation;
 mod bytes;
 mod calls;
-mod functions;
 pub mod laws;
 mod refusal;
 mod texts;
 
 pub use calls::{Regs0, call};
-pub use functions::{HostFunction, function_name, host_function, host_number};
 pub use refusal::HeapBad;
 
 #[cfg(test)]

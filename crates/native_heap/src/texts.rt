@@ -1,8 +1,9 @@
 //! Texts that end with a zero (ISO/IEC 9899 7.24).
 
-ghost use Rattle.std.specs.Prelude.{◌≡◌, ◌<◌, ◌+◌, ◌^◌, ◌∷◌, [], Some, IfOk, IfErr, OnErr, IfSome, OnSome, MatchOption, length, position};
+ghost use Rattle.std.specs.Prelude.{◌≡◌, ◌<◌, ◌+◌, ◌^◌, ◌∷◌, [], false, is_some, length, position};
+ghost use Rattle.std.specs.Prelude.{Some, IfOk, IfErr, OnErr, IfSome, OnSome, MatchOption};
 ghost use Rattle.std.specs.Option.{option_copied};
-ghost use Rattle.native_heap.specs.Outcome.{Refuses};
+ghost use Rattle.native_heap.specs.Outcome.{FailsBy};
 ghost use Rattle.native_heap.specs.Texts.{is_zero, text_at, strlen, strcpy, strcmp, readable_from};
 
 use crate::bytes::sign;
@@ -14,8 +15,9 @@ use std::alloc::Global;
 /// read.
 #[tactic(auto, unfolding(crate::specs::Texts::strlen))]
 pub fn strlen(memory: &Memory, s: u64) -> Result<u64, HeapBad>
-    ensures ok { IfOk result (λ answer. strlen memory.now.space s ≡ Some (answer, memory.now.space)) }
-    ensures err { IfErr result (λ bad. Refuses bad (strlen memory.now.space s)) }
+    ensures ok { IfOk result (λ answer.
+        strlen memory.now.space s ≡ Some (answer, memory.now.space)) }
+    ensures err { IfErr result (λ bad. FailsBy bad (strlen memory.now.space s) false) }
 {
     match text(memory, s) {
         Some(text) => Ok(text.len() as u64),
@@ -27,8 +29,11 @@ pub fn strlen(memory: &Memory, s: u64) -> Result<u64, HeapBad>
 /// be written; that is found before any memory is taken.
 #[tactic(auto, using(crate::proofs::Writing::writing), unfolding(crate::specs::Texts::strcpy))]
 pub fn strcpy(alloc: Global, memory: &mut Memory, to: u64, from: u64) -> Result<u64, HeapBad>
-    ensures ok { IfOk result (λ answer. strcpy memory.old.space to from ≡ Some (answer, memory.new.space)) }
-    ensures err { IfErr result (λ bad. Refuses bad (strcpy memory.old.space to from)) }
+    ensures ok { IfOk result (λ answer.
+        strcpy memory.old.space to from ≡ Some (answer, memory.new.space)) }
+    ensures err { IfErr result (λ bad.
+        FailsBy bad (strcpy memory.old.space to from)
+        (is_some (strcpy memory.old.space to from))) }
     ensures unchanged { OnErr result (memory.new ≡ memory.old) }
 {
     let Some(text) = text(memory, from) else {
@@ -47,8 +52,9 @@ pub fn strcpy(alloc: Global, memory: &mut Memory, to: u64, from: u64) -> Result<
 /// Compares two texts by the first bytes that differ. It goes byte by byte, and faults where one that is needed can't be read.
 #[tactic(auto, unfolding(crate::specs::Texts::strcmp))]
 pub fn strcmp(memory: &Memory, a: u64, b: u64) -> Result<u64, HeapBad>
-    ensures ok { IfOk result (λ answer. strcmp memory.now.space a b ≡ Some (answer, memory.now.space)) }
-    ensures err { IfErr result (λ bad. Refuses bad (strcmp memory.now.space a b)) }
+    ensures ok { IfOk result (λ answer.
+        strcmp memory.now.space a b ≡ Some (answer, memory.now.space)) }
+    ensures err { IfErr result (λ bad. FailsBy bad (strcmp memory.now.space a b) false) }
 {
     let mut left = a;
     let mut right = b;
@@ -87,7 +93,9 @@ fn zero_in(bytes: &[u8]) -> Option<usize>
 
 /// The byte at an address, None where it can't be read: the first of those that are readable from there on.
 fn byte(memory: &Memory, addr: u64) -> Option<u8>
-    ensures value { MatchOption result (readable_from memory.now.space addr ≡ []) (λ byte. readable_from memory.now.space addr ≡ byte ∷ readable_from memory.now.space (addr + 1)) }
+    ensures value { MatchOption result (readable_from memory.now.space addr ≡ [])
+        (λ byte. readable_from memory.now.space addr
+        ≡ byte ∷ readable_from memory.now.space (addr + 1)) }
     ensures low { OnSome result (addr < 2 ^ 46) }
 {
     memory.blocks_lie_apart();

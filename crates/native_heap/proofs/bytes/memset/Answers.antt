@@ -7,4 +7,4 @@ pub returns-then-not-holds-clause-err : goal.returns-then-not-holds-clause-err
 returns-then-not-holds-clause-err c = memset_refused _ _ _ _ (search rules)
 
 pub returns-in_err-bytes-clause-err : goal.returns-in_err-bytes-clause-err
-returns-in_err-bytes-clause-err c = refused _ _ c.from_residual.ensures.1 (memset_done _ _ _ _ (search rules))
+returns-in_err-bytes-clause-err c = refused _ _ _ c.from_residual.ensures.1 (memset_done _ _ _ _ (search rules))
