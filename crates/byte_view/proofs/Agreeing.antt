@@ -8,7 +8,7 @@ use Rattle.byte_view.specs.Metadata.{cell_place, cell_value, row_numbers, row_at
 use Rattle.byte_view.specs.Assembly.{metadata_in, metadata, assembly}
 use Rattle.byte_view.proofs.Images.{assembly_is}
 use Rattle.byte_view.specs.Laws.{LieApart, HeadersAndMetadataDecide}
-use Rattle.byte_view.specs.Layout.{Layout, is_present, count_place, row_count, start_of, layout}
+use Rattle.byte_view.specs.Layout.{header, Layout, is_present, count_place, row_count, start_of, layout}
 use Rattle.std.proofs.lemmas.List.{drop-drop, drop-take, length-take-le}
 use Rattle.byte_view.specs.Numbers.{le}
 use Rattle.byte_view.specs.Reading.{Broken, must, field, field_where, listed, each}
@@ -137,13 +137,11 @@ layout_same start a b same =
     rw (same.size, valid, heap_sizes)
     (let valid : ℕ = le b (start + 8) 8 in
     let heap_sizes : ℕ = le b (start + 6) 1 in
-    let header : Result ℕ Broken = must (nat_le (start + 24) (length b)) (parts.tables, start) in
-    let bits : Result ℕ Broken = each (λ table. must (is_table table || not (is_present valid table)) (parts.tables, start + 8)) 64 in
-    bind_same header header _ _ refl (λ passed _.
-    bind_same bits bits _ _ refl (λ known _.
+    let asked : Result ℕ Broken = header b start in
+    bind_same asked asked _ _ refl (λ known _.
     bind_same (listed (row_count a start valid) table_numbers) (listed (row_count b start valid) table_numbers) _ _ (listed_same (row_count a start valid) (row_count b start valid) table_numbers (λ k _. counts valid k)) (λ rows _.
     bind_same (listed (start_of a start valid heap_sizes rows) table_numbers) (listed (start_of b start valid heap_sizes rows) table_numbers) _ _ (listed_same (start_of a start valid heap_sizes rows) (start_of b start valid heap_sizes rows) table_numbers (λ k _. starts valid heap_sizes rows k)) (λ starts _.
-    refl)))))
+    refl))))
 
 cell_same : (start table row column : ℕ) (a b : List ℕ) (l : Layout) (kind : Option Column) → AgreeFrom start a b → start ≤ slice_index l.starts table → cell_value a l table row column kind ≡ cell_value b l table row column kind
 cell_same start table row column a b l None same h = refl

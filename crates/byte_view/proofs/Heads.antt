@@ -7,7 +7,7 @@ use Rattle.byteorder.specs.Endian.{little_from}
 use Rattle.byte_view.specs.Numbers.{le}
 use Rattle.byte_view.specs.Reading.{Broken, must, field, field_where}
 use Rattle.byte_view.specs.Parts as parts
-use Rattle.byte_view.specs.Headers.{Section, Headers, file_place, signature_place, section_table, directory_count_place, cli_directory, section_at, sections_of, cli_header_place, metadata_place, headers}
+use Rattle.byte_view.specs.Headers.{Section, Headers, file_place, signature_place, section_table, directory_count_place, cli_directory, section_at, sections_of, cli_header_place, metadata_place, Front, front, headers}
 use Rattle.byte_view.specs.Laws.{sections_end, directory_end, head_of, RestIsNotRead}
 use Rattle.byte_view.proofs.Reading.{bind_same, bind_then, same_read, field_where_ok, field_ok, listed_same}
 use Rattle.byte_view.proofs.Agreeing.{assembly_same}
@@ -151,17 +151,19 @@ metadata_place_same cli_at a b sections there =
 head_covers : (bytes : List ℕ) (p : ℕ) → le bytes 60 4 ≡ p → (sections_end bytes p ≤ head_of bytes) × (directory_end bytes p ≤ head_of bytes)
 head_covers bytes p e = subst (λ (p : ℕ). (sections_end bytes p ≤ head_of bytes) × (directory_end bytes p ≤ head_of bytes)) e (omega arith, omega arith)
 
--- headers that are read once are read again from the same bytes
-pub headers_same : (a b : List ℕ) (h : Headers) → headers a ≡ Ok h → AgreeIn 0 (head_of a) a b → AgreeIn h.cli_at (h.cli_at + 72) a b → headers b ≡ Ok h
-unfolding headers
-headers_same a b h e same there =
-    bind_then (signature_place a) _ h e (λ p p_read e1.
-    bind_then (section_table a p) _ h e1 (λ table table_is e2.
-    bind_then (directory_count_place a (p + 24)) _ h e2 (λ count_at count_at_read e3.
-    bind_then (cli_directory a count_at) _ h e3 (λ directory directory_is e4.
-    bind_then (sections_of a p table.0 table.1) _ h e4 (λ sections sections_read e5.
-    bind_then (cli_header_place a sections directory) _ h e5 (λ cli_at cli_at_read e6.
-    bind_then (metadata_place a sections cli_at) _ h e6 (λ meta_at meta_at_read e7.
+-- a front that is read once is read again from the same bytes; what it tells of lies in the head
+record FrontOf (a b : List ℕ) (f : Front) : Type 0 where
+  again : front b ≡ Ok f
+  listed_in : f.table + 40 * f.count ≤ head_of a
+  directory_in : f.directory + 8 ≤ head_of a
+
+front_same : (a b : List ℕ) (f : Front) → front a ≡ Ok f → AgreeIn 0 (head_of a) a b → FrontOf a b f
+unfolding front
+front_same a b f e same =
+    bind_then (signature_place a) _ f e (λ p p_read e1.
+    bind_then (section_table a p) _ f e1 (λ table table_is e2.
+    bind_then (directory_count_place a (p + 24)) _ f e2 (λ count_at count_at_read e3.
+    bind_then (cli_directory a count_at) _ f e3 (λ directory directory_is e4.
     let of_p : le a 60 4 ≡ p = signature_read a p p_read in
     let of_table = table_read a p table table_is in
     let of_count = count_place_read a (p + 24) count_at count_at_read in
@@ -169,19 +171,35 @@ headers_same a b h e same there =
     let covers = head_covers a p of_p in
     let reaches : count_at + 124 ≤ head_of a = rw (← of_count) covers.1 in
     let behind : p + 24 ≤ count_at = rw (← of_count) (omega arith) in
-    let listed_in : table.1 + 40 * table.0 ≤ head_of a = rw (← of_table.0, ← of_table.1) covers.0 in
-    let of_cli : cli_at ≡ h.cli_at = ap (λ (h : Headers). h.cli_at) (same_read _ h e7) in
-    let here : AgreeIn cli_at (cli_at + 72) a b = subst (λ (n : ℕ). AgreeIn n (n + 72) a b) (sym of_cli) there in
     let s1 : signature_place b ≡ Ok p = sym (signature_same (head_of a) a b same (omega arith) (omega arith)) ∙ p_read in
     let s2 : section_table b p ≡ Ok table = sym (table_same (head_of a) p a b same (omega arith)) ∙ table_is in
     let s3 : directory_count_place b (p + 24) ≡ Ok count_at = sym (count_place_same (head_of a) (p + 24) a b same (omega arith)) ∙ count_at_read in
     let s4 : cli_directory b count_at ≡ Ok directory = sym (directory_same (head_of a) count_at a b same reaches) ∙ directory_is in
-    let s5 : sections_of b p table.0 table.1 ≡ Ok sections = sym (sections_same (head_of a) p table.0 table.1 a b same listed_in) ∙ sections_read in
-    let s6 : cli_header_place b sections directory ≡ Ok cli_at = sym (cli_header_same (head_of a) directory cli_at a b sections same (omega (arith, of_directory, reaches)) cli_at_read here) ∙ cli_at_read in
+    let made : Front = record { signature = p; count = table.0; table = table.1; directory = directory } in
+    subst (FrontOf a b) (same_read made f e4) (record {
+      again = rw (s1, s2, s3, s4) refl;
+      listed_in = rw (← of_table.0, ← of_table.1) covers.0;
+      directory_in = omega (arith, of_directory, reaches);
+    })))))
+
+-- headers that are read once are read again from the same bytes
+pub headers_same : (a b : List ℕ) (h : Headers) → headers a ≡ Ok h → AgreeIn 0 (head_of a) a b → AgreeIn h.cli_at (h.cli_at + 72) a b → headers b ≡ Ok h
+unfolding headers
+headers_same a b h e same there =
+    bind_then (front a) _ h e (λ f f_read e4.
+    bind_then (sections_of a f.signature f.count f.table) _ h e4 (λ sections sections_read e5.
+    bind_then (cli_header_place a sections f.directory) _ h e5 (λ cli_at cli_at_read e6.
+    bind_then (metadata_place a sections cli_at) _ h e6 (λ meta_at meta_at_read e7.
+    let of_front = front_same a b f f_read same in
+    let of_cli : cli_at ≡ h.cli_at = ap (λ (h : Headers). h.cli_at) (same_read _ h e7) in
+    let here : AgreeIn cli_at (cli_at + 72) a b = subst (λ (n : ℕ). AgreeIn n (n + 72) a b) (sym of_cli) there in
+    let s5 : sections_of b f.signature f.count f.table ≡ Ok sections = sym (sections_same (head_of a) f.signature f.count f.table a b same of_front.listed_in) ∙ sections_read in
+    let s6 : cli_header_place b sections f.directory ≡ Ok cli_at = sym (cli_header_same (head_of a) f.directory cli_at a b sections same of_front.directory_in cli_at_read here) ∙ cli_at_read in
     let s7 : metadata_place b sections cli_at ≡ Ok meta_at = sym (metadata_place_same cli_at a b sections here) ∙ meta_at_read in
     let meta_size : le a (cli_at + 12) 4 ≡ le b (cli_at + 12) 4 = le_in cli_at (cli_at + 72) (cli_at + 12) 4 a b here (omega arith) (omega arith) in
     let entry : le a (cli_at + 20) 4 ≡ le b (cli_at + 20) 4 = le_in cli_at (cli_at + 72) (cli_at + 20) 4 a b here (omega arith) (omega arith) in
-    rw (s1, s2, s3, s4, s5, s6, s7, ← meta_size, ← entry) e7)))))))
+    let s0 : front b ≡ Ok f = of_front.again in
+    rw (s0, s5, s6, s7, ← meta_size, ← entry) e7))))
 
 pub rest_is_not_read : RestIsNotRead
 rest_is_not_read a b h same =

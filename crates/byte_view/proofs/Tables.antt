@@ -6,7 +6,7 @@ use Rattle.byte_view.specs.Numbers.{le}
 use Rattle.byte_view.specs.Reading.{must, listed, each}
 use Rattle.byte_view.specs.Parts as parts
 use Rattle.byte_view.specs.Columns.{is_table, table_numbers}
-use Rattle.byte_view.specs.Layout.{Layout, is_present, count_place, row_count, table_start, start_of, layout}
+use Rattle.byte_view.specs.Layout.{header, Layout, is_present, count_place, row_count, table_start, start_of, layout}
 use Rattle.byte_view.specs.Laws.{table_end, TablesOfStreamLieApart}
 use Rattle.byte_view.proofs.Reading.{bind_then, same_read, must_ok, chosen_ok, listed_at}
 
@@ -23,23 +23,27 @@ pub record LaidOut (image : List ℕ) (start : ℕ) (l : Layout) : Type 0 where
   pub rows : listed (row_count image start (le image (start + 8) 8)) table_numbers ≡ Ok l.rows
   pub starts : listed (start_of image start (le image (start + 8) 8) l.heap_sizes l.rows) table_numbers ≡ Ok l.starts
 
+header_there : (image : List ℕ) (start x : ℕ) → header image start ≡ Ok x → start + 24 ≤ length image
+header_there image start x e =
+    bind_then (must (nat_le (start + 24) (length image)) (parts.tables, start)) _ x e
+    (λ passed here _. leb-true (start + 24) (length image) (must_ok _ (parts.tables, start) passed here))
+
 pub laid_out : (image : List ℕ) (start : ℕ) (l : Layout) → layout image start ≡ Ok l → LaidOut image start l
 unfolding layout
 laid_out image start l e =
     let heap_sizes : ℕ = le image (start + 6) 1 in
     let valid : ℕ = le image (start + 8) 8 in
-    bind_then (must (nat_le (start + 24) (length image)) (parts.tables, start)) _ l e (λ passed header e1.
-    bind_then (each (λ table. must (is_table table || not (is_present valid table)) (parts.tables, start + 8)) 64) _ l e1 (λ known bits e2.
+    bind_then (header image start) _ l e (λ known asked e2.
     bind_then (listed (row_count image start valid) table_numbers) _ l e2 (λ rows rows_read e3.
     bind_then (listed (start_of image start valid heap_sizes rows) table_numbers) _ l e3 (λ starts starts_read e4.
     subst (λ (l : Layout). LaidOut image start l)
     (same_read (record { heap_sizes = heap_sizes; rows = rows; starts = starts }) l e4)
     (record {
-      header = leb-true (start + 24) (length image) (must_ok _ (parts.tables, start) passed header);
+      header = header_there image start known asked;
       heap_sizes = refl;
       rows = rows_read;
       starts = starts_read;
-    })))))
+    }))))
 
 -- a table's start and end, by the start that was read
 pub start_at : (image : List ℕ) (start : ℕ) (l : Layout) → LaidOut image start l → (table : ℕ) → table < table_numbers → (table_start start (le image (start + 8) 8) l.heap_sizes l.rows (suc table) ≤ length image) × (table_start start (le image (start + 8) 8) l.heap_sizes l.rows table ≡ slice_index l.starts table)

@@ -9,7 +9,7 @@ use Rattle.std.proofs.lemmas.List.{length-take-le, take-take}
 use Rattle.byte_view.specs.Numbers.{le}
 use Rattle.byte_view.specs.Reading.{field_where}
 use Rattle.byte_view.specs.Parts as parts
-use Rattle.byte_view.specs.Headers.{Section, Headers, holds_range, raw_place, file_place, signature_place, section_table, directory_count_place, cli_directory, sections_of, cli_header_place, metadata_place, headers}
+use Rattle.byte_view.specs.Headers.{Section, Headers, front, holds_range, raw_place, file_place, signature_place, section_table, directory_count_place, cli_directory, sections_of, cli_header_place, metadata_place, headers}
 use Rattle.byte_view.specs.Streams.{Range, Streams, Stream, root, stream_name, stream_at, first_of, with_stream, streams_after, streams}
 use Rattle.byte_view.specs.Layout.{layout}
 use Rattle.byte_view.specs.Laws.{TablesLieInMetadata}
@@ -37,16 +37,13 @@ file_place_within (section ∷ sections) size rva len at e =
 pub metadata_within : (bytes : List ℕ) (h : Headers) → headers bytes ≡ Ok h → h.meta_at + h.meta_size ≤ length bytes
 unfolding headers metadata_place
 metadata_within bytes h e =
-    bind_then (signature_place bytes) _ h e (λ p _ e1.
-    bind_then (section_table bytes p) _ h e1 (λ table _ e2.
-    bind_then (directory_count_place bytes (p + 24)) _ h e2 (λ count_at _ e3.
-    bind_then (cli_directory bytes count_at) _ h e3 (λ directory _ e4.
-    bind_then (sections_of bytes p table.0 table.1) _ h e4 (λ sections _ e5.
-    bind_then (cli_header_place bytes sections directory) _ h e5 (λ cli_at _ e6.
+    bind_then (front bytes) _ h e (λ f _ e4.
+    bind_then (sections_of bytes f.signature f.count f.table) _ h e4 (λ sections _ e5.
+    bind_then (cli_header_place bytes sections f.directory) _ h e5 (λ cli_at _ e6.
     bind_then (metadata_place bytes sections cli_at) _ h e6 (λ meta_at place e7.
     let lies : meta_at + le bytes (cli_at + 12) 4 ≤ length bytes =
     file_place_within sections (length bytes) (le bytes (cli_at + 8) 4) (le bytes (cli_at + 12) 4) meta_at (ok_or_ok _ (parts.metadata_root, cli_at + 8) meta_at place) in
-    subst (λ (h : Headers). h.meta_at + h.meta_size ≤ length bytes) (same_read _ h e7) lies)))))))
+    subst (λ (h : Headers). h.meta_at + h.meta_size ≤ length bytes) (same_read _ h e7) lies))))
 
 -- a stream's range, in metadata from a place up to an end
 abbrev pub LiesIn : ℕ → ℕ → Option Range → Type 0

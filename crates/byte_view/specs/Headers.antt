@@ -95,15 +95,28 @@ unfoldable pub metadata_place : List ℕ → List Section → ℕ → Result ℕ
 metadata_place bytes sections cli_at =
     ok_or (file_place sections (length bytes) (le bytes (cli_at + 8) 4) (le bytes (cli_at + 12) 4)) (parts.metadata_root, cli_at + 8)
 
--- the headers of an image, part after part
-unfoldable pub headers : List ℕ → Result Headers Broken
-headers bytes = do
+-- The headers before those of the sections: where the PE signature stands, how many section headers there are and where
+-- they begin, and where the directory of the CLI header stands.
+pub record Front : Type 0 where
+  pub signature : ℕ
+  pub count : ℕ
+  pub table : ℕ
+  pub directory : ℕ
+
+unfoldable pub front : List ℕ → Result Front Broken
+front bytes = do
   p ← signature_place bytes
   table ← section_table bytes p
   count_at ← directory_count_place bytes (p + 24)
   directory ← cli_directory bytes count_at
-  sections ← sections_of bytes p table.0 table.1
-  cli_at ← cli_header_place bytes sections directory
+  Ok (record { signature = p; count = table.0; table = table.1; directory = directory })
+
+-- the headers of an image, part after part
+unfoldable pub headers : List ℕ → Result Headers Broken
+headers bytes = do
+  front ← front bytes
+  sections ← sections_of bytes front.signature front.count front.table
+  cli_at ← cli_header_place bytes sections front.directory
   meta_at ← metadata_place bytes sections cli_at
   Ok (record {
     meta_at = meta_at;

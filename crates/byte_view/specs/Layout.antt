@@ -43,12 +43,18 @@ start_of image start valid heap_sizes rows table =
     then Ok (table_start start valid heap_sizes rows table)
     else Err (parts.tables, count_place start valid table)
 
+-- the stream's header of 24 bytes is there, and each bit of Valid that is set is a table's
+abbrev pub header : List ℕ → ℕ → Result ℕ Broken
+header image start = do
+  _ ← must (nat_le (start + 24) (length image)) (parts.tables, start)
+  let valid : ℕ = le image (start + 8) 8
+  each (λ table. must (is_table table || not (is_present valid table)) (parts.tables, start + 8)) 64
+
 unfoldable pub layout : List ℕ → ℕ → Result Layout Broken
 layout image start = do
-  _ ← must (nat_le (start + 24) (length image)) (parts.tables, start)
+  _ ← header image start
   let heap_sizes : ℕ = le image (start + 6) 1
   let valid : ℕ = le image (start + 8) 8
-  _ ← each (λ table. must (is_table table || not (is_present valid table)) (parts.tables, start + 8)) 64
   rows ← listed (row_count image start valid) table_numbers
   starts ← listed (start_of image start valid heap_sizes rows) table_numbers
   Ok (record { heap_sizes = heap_sizes; rows = rows; starts = starts })

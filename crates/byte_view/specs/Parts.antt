@@ -1,5 +1,5 @@
 -- The parts of an image, each by its place in the reading order, from 0.
-use Rattle.std.specs.Prelude.{ℕ}
+use Rattle.std.specs.Prelude.{ℕ, List, [], ◌∷◌}
 
 abbrev pub mz : ℕ
 mz = 0
@@ -45,3 +45,22 @@ types = 13
 
 abbrev pub entry_point : ℕ
 entry_point = 14
+
+abbrev pub reading_order : List ℕ
+reading_order =
+    mz
+    ∷ pe_offset
+    ∷ pe_signature
+    ∷ coff_header
+    ∷ optional_header
+    ∷ directories
+    ∷ sections
+    ∷ cli_header
+    ∷ cli_flags
+    ∷ metadata_root
+    ∷ streams
+    ∷ tables
+    ∷ cell
+    ∷ types
+    ∷ entry_point
+    ∷ []

@@ -43,6 +43,11 @@ abbrev pub Reads : {E R X Y : Type 0} → (E → Option R) → (X → Y) → Res
 Reads says view (Ok x) read = read ≡ Ok (view x)
 Reads says view (Err e) read = Refuses says e read
 
+-- A reader wanted memory: its error says no refusal.
+abbrev pub WantsMemory : {E R X : Type 0} → (E → Option R) → Result X E → Type 0
+WantsMemory says (Ok x) = ⊥
+WantsMemory says (Err e) = says e ≡ None
+
 -- a part of a file, by its place in the reading order, and a file offset
 abbrev pub Broken : Type 0
 Broken = ℕ × ℕ

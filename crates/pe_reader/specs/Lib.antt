@@ -1,1 +1,2 @@
 pub mod Pe
+pub mod Laws

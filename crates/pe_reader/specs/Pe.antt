@@ -3,6 +3,7 @@ use Rattle.std.specs.Prelude.{List, map}
 use Rattle.byte_view.specs.Headers as definition
 use Rattle.pe_reader.specs.declared.sections.Section.{Section}
 use Rattle.pe_reader.specs.declared.headers.Pe.{Pe}
+use Rattle.pe_reader.specs.declared.headers.Front.{Front}
 
 abbrev pub section_of : Section → definition.Section
 section_of section = record { rva = section.rva; raw_at = section.raw_at; raw_size = section.raw_size }
@@ -17,4 +18,12 @@ headers_of pe = record {
   entry = pe.entry;
   cli_at = pe.cli_at;
   sections = sections_of pe;
+}
+
+abbrev pub front_of : Front → definition.Front
+front_of front = record {
+  signature = front.signature;
+  count = front.count;
+  table = front.table;
+  directory = front.directory;
 }

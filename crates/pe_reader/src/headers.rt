@@ -1,16 +1,17 @@
 //! The headers of a PE file, one after another, up to the range of the metadata.
 
-ghost use Rattle.std.specs.Prelude.{◌≡◌, ◌+◌, ◌<◌, ◌≤◌, ◌^◌, length, map, IfOk};
+ghost use Rattle.std.specs.Prelude.{◌≡◌, ◌+◌, ◌<◌, ◌≤◌, ◌^◌, length, map, IfOk, IsOkAnd};
 ghost use Rattle.bound_base.specs.Image.{refusal};
 ghost use Rattle.byte_view.specs.Headers as definition;
 ghost use Rattle.byte_view.specs.Numbers.{le};
-ghost use Rattle.byte_view.specs.Reading.{Reads};
-ghost use Rattle.pe_reader.specs.Pe.{section_of, headers_of};
+ghost use Rattle.byte_view.specs.Reading.{Reads, WantsMemory};
+ghost use Rattle.pe_reader.specs.Pe.{section_of, headers_of, front_of};
 
 use crate::addresses::file_place;
-use crate::fields::{field16, field32, must, number16, number32};
+use crate::fields::{bad, field16, field32, must};
 use crate::sections::{Sections, read_sections};
 use bound_base::{BadImage, Part};
+use byte_view::{number16, number32};
 use std::alloc::Global;
 
 /// The magic of an MS-DOS header: `MZ`.
@@ -56,18 +57,18 @@ pub struct Pe {
 ///
 /// `Bad` names the first part that is broken, of those from `mz` to `cli flags`, and the file offset of its first
 /// field that is missing or wrong. Where no section holds the range of the metadata, it is `metadata root` at the
-/// CLI header's field of that range. `Memory` says that there is no memory for the sections.
+/// CLI header's field of that range. `Memory` says that there is no memory for the sections: it comes only where the
+/// headers before those of the sections are sound, and the file has 1 to 96 sections.
 #[tactic(auto, unfolding(byte_view::specs::Headers::headers))]
 pub fn read_pe(alloc: Global, bytes: &[u8]) -> Result<Pe, BadImage>
     ensures headers { Reads refusal headers_of result (definition.headers bytes.now) }
     ensures within { IfOk result (λ pe. pe.meta_at + pe.meta_size ≤ length bytes.now) }
+    ensures memory { WantsMemory refusal result
+        → IsOkAnd (definition.front bytes.now) (λ front. (1 ≤ front.count) × (front.count ≤ 96)) }
 {
-    let pe_at = signature_place(bytes)?;
-    let table = section_table(bytes, pe_at)?;
-    let count_at = directory_count_place(bytes, pe_at + 24)?;
-    let directory = cli_directory(bytes, count_at)?;
-    let sections = read_sections(alloc, bytes, pe_at, table.count, table.at)?;
-    let cli_at = cli_header_place(bytes, &sections, directory)?;
+    let front = read_front(bytes)?;
+    let sections = read_sections(alloc, bytes, front.signature, front.count, front.table)?;
+    let cli_at = cli_header_place(bytes, &sections, front.directory)?;
     let meta_at = metadata_place(bytes, &sections, cli_at)?;
     Ok(Pe {
         meta_at: meta_at as u64,
@@ -78,10 +79,41 @@ pub fn read_pe(alloc: Global, bytes: &[u8]) -> Result<Pe, BadImage>
     })
 }
 
+/// The headers before those of the sections: where the PE signature stands, how many section headers there are and the
+/// file offset of the first, and that of the CLI header's directory.
+#[derive(Clone, Copy)]
+pub struct Front {
+    pub signature: usize,
+    pub count: usize,
+    pub table: usize,
+    pub directory: usize,
+}
+
+/// Reads the headers before those of the sections.
+#[tactic(auto, unfolding(byte_view::specs::Headers::front))]
+fn read_front(bytes: &[u8]) -> Result<Front, BadImage>
+    ensures front { Reads refusal front_of result (definition.front bytes.now) }
+    ensures memory { ¬ WantsMemory refusal result }
+    ensures small { IfOk result (λ front. (front.signature < 2 ^ 32) × (front.table < 2 ^ 33)) }
+    ensures within { IfOk result (λ front. front.directory + 8 ≤ length bytes.now) }
+{
+    let signature = signature_place(bytes)?;
+    let table = section_table(bytes, signature)?;
+    let count_at = directory_count_place(bytes, signature + 24)?;
+    let directory = cli_directory(bytes, count_at)?;
+    Ok(Front {
+        signature,
+        count: table.count,
+        table: table.at,
+        directory,
+    })
+}
+
 /// Where the PE signature stands, which the MS-DOS header tells at 60 (II.25.2.1).
 #[tactic(auto, unfolding(byte_view::specs::Headers::signature_place))]
 fn signature_place(bytes: &[u8]) -> Result<usize, BadImage>
     ensures place { Reads refusal (λ x. x) result (definition.signature_place bytes.now) }
+    ensures memory { ¬ WantsMemory refusal result }
     ensures small { IfOk result (λ pe_at. pe_at < 2 ^ 32) }
 {
     let magic = field16(Part::Mz, bytes, 0)?;
@@ -103,7 +135,9 @@ struct SectionTable {
 #[tactic(auto, unfolding(byte_view::specs::Headers::section_table))]
 fn section_table(bytes: &[u8], pe_at: usize) -> Result<SectionTable, BadImage>
     requires { pe_at < 2 ^ 32 }
-    ensures table { Reads refusal (λ table. (table.count, table.at)) result (definition.section_table bytes.now pe_at) }
+    ensures table { Reads refusal (λ table. (table.count, table.at)) result
+        (definition.section_table bytes.now pe_at) }
+    ensures memory { ¬ WantsMemory refusal result }
     ensures small { IfOk result (λ table. table.at < 2 ^ 33) }
 {
     must(pe_at + 24 <= bytes.len(), Part::CoffHeader, pe_at + 4)?;
@@ -119,16 +153,14 @@ fn section_table(bytes: &[u8], pe_at: usize) -> Result<SectionTable, BadImage>
 fn directory_count_place(bytes: &[u8], optional: usize) -> Result<usize, BadImage>
     requires { optional < 2 ^ 33 }
     ensures place { Reads refusal (λ x. x) result (definition.directory_count_place bytes.now optional) }
+    ensures memory { ¬ WantsMemory refusal result }
     ensures small { IfOk result (λ at. at < 2 ^ 34) }
 {
     let magic = field16(Part::OptionalHeader, bytes, optional)?;
     match magic {
         PE32 => Ok(optional + 92),
         PE32_PLUS => Ok(optional + 108),
-        _ => Err(BadImage::Bad {
-            part: Part::OptionalHeader,
-            at: optional as u64,
-        }),
+        _ => Err(bad(Part::OptionalHeader, optional)),
     }
 }
 
@@ -137,6 +169,7 @@ fn directory_count_place(bytes: &[u8], optional: usize) -> Result<usize, BadImag
 fn cli_directory(bytes: &[u8], count_at: usize) -> Result<usize, BadImage>
     requires { count_at < 2 ^ 34 }
     ensures place { Reads refusal (λ x. x) result (definition.cli_directory bytes.now count_at) }
+    ensures memory { ¬ WantsMemory refusal result }
     ensures within { IfOk result (λ at. at + 8 ≤ length bytes.now) }
 {
     let count = field32(Part::Directories, bytes, count_at)? as usize;
@@ -153,13 +186,12 @@ fn cli_header_place(bytes: &[u8], sections: &Sections, directory: usize) -> Resu
     requires { directory + 8 ≤ length bytes.now }
     ensures place { Reads refusal (λ x. x) result
         (definition.cli_header_place bytes.now (map section_of sections.now) directory) }
+    ensures memory { ¬ WantsMemory refusal result }
     ensures within { IfOk result (λ at. at + 72 ≤ length bytes.now) }
 {
     let rva = number32(bytes, directory);
-    let at = file_place(sections, bytes.len(), rva, CLI_HEADER_SIZE).ok_or(BadImage::Bad {
-        part: Part::CliHeader,
-        at: directory as u64,
-    })?;
+    let at = file_place(sections, bytes.len(), rva, CLI_HEADER_SIZE)
+        .ok_or(bad(Part::CliHeader, directory))?;
     let flags = number32(bytes, at + 16);
     must(
         flags & (IL_ONLY | NATIVE_ENTRY_POINT) == IL_ONLY,
@@ -175,12 +207,10 @@ fn metadata_place(bytes: &[u8], sections: &Sections, cli_at: usize) -> Result<us
     requires { cli_at + 72 ≤ length bytes.now }
     ensures place { Reads refusal (λ x. x) result
         (definition.metadata_place bytes.now (map section_of sections.now) cli_at) }
+    ensures memory { ¬ WantsMemory refusal result }
     ensures within { IfOk result (λ at. at + le bytes.now (cli_at + 12) 4 ≤ length bytes.now) }
 {
     let rva = number32(bytes, cli_at + 8);
     let size = number32(bytes, cli_at + 12);
-    file_place(sections, bytes.len(), rva, size).ok_or(BadImage::Bad {
-        part: Part::MetadataRoot,
-        at: (cli_at + 8) as u64,
-    })
+    file_place(sections, bytes.len(), rva, size).ok_or(bad(Part::MetadataRoot, cli_at + 8))
 }

@@ -4,6 +4,7 @@
 mod addresses;
 mod fields;
 mod headers;
+pub mod laws;
 mod sections;
 
 pub use addresses::{at_rva, rest_at};

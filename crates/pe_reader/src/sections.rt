@@ -3,11 +3,12 @@
 ghost use Rattle.std.specs.Prelude.{◌≡◌, ◌+◌, ◌*◌, ◌<◌, ◌≤◌, ◌^◌, map};
 ghost use Rattle.bound_base.specs.Image.{refusal};
 ghost use Rattle.byte_view.specs.Headers as definition;
-ghost use Rattle.byte_view.specs.Reading.{Reads, listed};
+ghost use Rattle.byte_view.specs.Reading.{Reads, WantsMemory, listed};
 ghost use Rattle.pe_reader.specs.Pe.{section_of};
 
-use crate::fields::{must, number32};
+use crate::fields::must;
 use bound_base::{BadImage, Items, Part};
+use byte_view::number32;
 use std::alloc::Global;
 
 /// How many sections a file may have.
@@ -70,7 +71,9 @@ pub fn read_sections(
 ) -> Result<Sections, BadImage>
     requires signature { pe_at < 2 ^ 32 }
     requires table { at < 2 ^ 33 }
-    ensures { Reads refusal (map section_of) result (definition.sections_of bytes.now pe_at count at) }
+    ensures sections { Reads refusal (map section_of) result
+        (definition.sections_of bytes.now pe_at count at) }
+    ensures memory { WantsMemory refusal result → (1 ≤ count) × (count ≤ 96) }
 {
     must(count <= SECTION_LIMIT, Part::Sections, pe_at + 6)?;
     section_headers(alloc, bytes, count, at)
@@ -85,8 +88,9 @@ fn section_headers(
 ) -> Result<Sections, BadImage>
     requires few { count ≤ 96 }
     requires table { at < 2 ^ 33 }
-    ensures { Reads refusal (map section_of) result
+    ensures sections { Reads refusal (map section_of) result
         (listed (λ k. definition.section_at bytes.now (at + 40 * k)) count) }
+    ensures memory { WantsMemory refusal result → 1 ≤ count }
 {
     let mut sections = Sections::new(alloc);
     for k in 0..count {
@@ -99,7 +103,8 @@ fn section_headers(
 /// The section whose header is at `at`.
 fn section_at(bytes: &[u8], at: usize) -> Result<Section, BadImage>
     requires { at < 2 ^ 34 }
-    ensures { Reads refusal section_of result (definition.section_at bytes.now at) }
+    ensures section { Reads refusal section_of result (definition.section_at bytes.now at) }
+    ensures memory { ¬ WantsMemory refusal result }
 {
     must(at + HEADER_SIZE <= bytes.len(), Part::Sections, at)?;
     Ok(Section {
