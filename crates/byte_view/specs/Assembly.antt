@@ -4,7 +4,7 @@ use Rattle.std.specs.Prelude.{ℕ, ◌+◌, List, take, Result, Ok}
 use Rattle.byte_view.specs.Reading.{Broken, ◌>>=◌}
 use Rattle.byte_view.specs.Headers.{Headers, headers}
 use Rattle.byte_view.specs.Streams.{streams, heap_of}
-use Rattle.byte_view.specs.Layout.{layout}
+use Rattle.byte_view.specs.Layout.{header, layout}
 use Rattle.byte_view.specs.Metadata.{Metadata, tables_in}
 use Rattle.byte_view.specs.Cells.{check_cells}
 
@@ -24,6 +24,12 @@ metadata_in image at = do
   }
   _ ← check_cells layout m
   Ok m
+
+-- what is asked of metadata before the rows of its tables are counted: its streams, and the header of `#~`
+abbrev pub header_in : List ℕ → ℕ → Result ℕ Broken
+header_in image at = do
+  streams ← streams image at
+  header (take streams.0.end image) streams.0.start
 
 -- the metadata of a file, in a range of it
 abbrev pub metadata : List ℕ → ℕ → ℕ → Result Metadata Broken

@@ -9,7 +9,7 @@ use Rattle.bound_base.specs.Image.{refusal}
 use Rattle.byte_view.specs.Numbers.{le}
 use Rattle.byte_view.specs.Reading.{Broken, ◌>>=◌, must, each, listed, Refuses}
 use Rattle.byte_view.specs.Columns.{row_width}
-use Rattle.byte_view.specs.Layout.{Layout, table_start, count_place, row_count, start_of, layout}
+use Rattle.byte_view.specs.Layout.{Layout, header, table_start, count_place, row_count, start_of, layout}
 use Rattle.byte_view.specs.Streams.{Range, Streams, streams}
 use Rattle.byte_view.specs.Metadata.{Metadata, row_at, row_of, row_start, row_place}
 use Rattle.byte_view.specs.Cells.{check_cells}
@@ -55,9 +55,8 @@ layout_ok : (image : List ℕ) (start : ℕ) (l : Layout) → layout image start
 unfolding layout placed
 layout_ok image start l e =
     let counted : ℕ → Result Layout Broken = λ _. listed (row_count image start (le image (start + 8) 8)) 45 >>= λ rows. placed image start rows in
-    let one = bind_ok (must _ (11, start)) (λ _. each (tests_valid (le image (start + 8) 8) (start + 8)) 64 >>= counted) l e in
-    let two = bind_ok (each (tests_valid (le image (start + 8) 8) (start + 8)) 64) counted l one.2 in
-    let three = bind_ok (listed (row_count image start (le image (start + 8) 8)) 45) (λ rows. placed image start rows) l two.2 in
+    let one = bind_ok (header image start) counted l e in
+    let three = bind_ok (listed (row_count image start (le image (start + 8) 8)) 45) (λ rows. placed image start rows) l one.2 in
     (three.0, three.1, three.2)
 
 -- what a layout that was read tells of its tables

@@ -4,13 +4,14 @@ ghost use Rattle.std.specs.Prelude.{◌≡◌, ◌+◌, ◌*◌, ◌/◌, ◌%�
 ghost use Rattle.std.specs.List.{sum_by};
 ghost use Rattle.bound_base.specs.Image.{refusal};
 ghost use Rattle.byte_view.specs.Columns.{table_numbers};
-ghost use Rattle.byte_view.specs.Reading.{Reads, each};
+ghost use Rattle.byte_view.specs.Reading.{Reads, WantsMemory, each};
 ghost use Rattle.byte_view.specs.Cells.{check_table as table_check, check_cells as cells_check};
 ghost use Rattle.meta_tables.specs.View.{bytes_of, view_column};
 ghost use Rattle.meta_tables.specs.Shapes.{view_layout, IsLaidOut};
 ghost use Rattle.meta_tables.specs.Cells.{sizes_of, is_row_by, sound_by, tests_row, metadata_of};
 
 use crate::columns::{Column, Tags, Width, columns, rows_at};
+use crate::fields::bad;
 use crate::heaps::Heaps;
 use crate::layout::Layout;
 use crate::rows::{row_from, shape_in, start_in};
@@ -27,7 +28,9 @@ static CHECKED_TABLES: [u8; 19] = [
 /// Refuses the first cell of the checked tables that isn't sound.
 pub fn check_cells(stream: &[u8], layout: &Layout, heaps: &Heaps<'_>) -> Result<(), BadImage>
     requires { IsLaidOut stream.now layout.now }
-    ensures { Reads refusal (λ _. 0) result (cells_check (view_layout layout.now) (metadata_of heaps.now stream.now layout.now)) }
+    ensures reads { Reads refusal (λ _. 0) result
+        (cells_check (view_layout layout.now) (metadata_of heaps.now stream.now layout.now)) }
+    ensures memory { ¬ WantsMemory refusal result }
 {
     for table in CHECKED_TABLES.iter() {
         check_table(stream, layout, heaps, *table)?;
@@ -39,7 +42,9 @@ pub fn check_cells(stream: &[u8], layout: &Layout, heaps: &Heaps<'_>) -> Result<
 fn check_table(stream: &[u8], layout: &Layout, heaps: &Heaps<'_>, table: u8) -> Result<(), BadImage>
     requires layout { IsLaidOut stream.now layout.now }
     requires table { table < table_numbers }
-    ensures { Reads refusal (λ _. 0) result (table_check (view_layout layout.now) (metadata_of heaps.now stream.now layout.now) table) }
+    ensures reads { Reads refusal (λ _. 0) result
+        (table_check (view_layout layout.now) (metadata_of heaps.now stream.now layout.now) table) }
+    ensures memory { ¬ WantsMemory refusal result }
 {
     let rows = layout.rows.as_slice();
     let columns = columns(table);
@@ -67,15 +72,15 @@ fn check_row(
 ) -> Result<(), BadImage>
     requires columns { length columns.now ≤ 9 }
     requires start { start < 2 ^ 63 }
-    ensures { Reads refusal (λ _. 0) result (each (tests_row (sizes_of heaps.now rows.now) (map view_column columns.now) (map bytes_of widths.now) start before.now row.now) (length columns.now)) }
+    ensures reads { Reads refusal (λ _. 0) result
+        (each (tests_row (sizes_of heaps.now rows.now) (map view_column columns.now)
+            (map bytes_of widths.now) start before.now row.now) (length columns.now)) }
+    ensures memory { ¬ WantsMemory refusal result }
 {
     let mut place = start;
     for column in 0..columns.len() {
         if !is_sound(heaps, rows, columns[column], before[column], row[column]) {
-            return Err(BadImage::Bad {
-                part: Part::Cell,
-                at: place as u64,
-            });
+            return Err(bad(Part::Cell, place));
         }
         place += widths[column].bytes();
     }
@@ -103,7 +108,8 @@ fn is_sound(heaps: &Heaps<'_>, rows: &[u32], column: Column, before: u32, value:
 /// Whether a coded index names a row of its tag's table.
 fn names_row(rows: &[u32], tags: Tags, value: u32) -> bool
     requires { tags.bits ≤ 5 }
-    ensures { result ≡ is_row_by rows.now (slice_get tags.tables.now (value % 2 ^ tags.bits)) (value / 2 ^ tags.bits) }
+    ensures { result ≡ is_row_by rows.now
+        (slice_get tags.tables.now (value % 2 ^ tags.bits)) (value / 2 ^ tags.bits) }
 {
     let tag_values = power_of_two(tags.bits);
     let tag = value % tag_values;

@@ -1,56 +1,39 @@
-//! Fields of a part of an image: a number, or the part and the place where its bytes are missing.
+//! Fields of a part of an image: a number, or the part and the place where its bytes are missing. None of these takes
+//! memory.
 
 ghost use Rattle.std.specs.Option.{option_copied};
-ghost use Rattle.std.specs.Prelude.{◌≡◌, ◌==◌, ◌+◌, ◌<◌, ◌≤◌, length, position};
+ghost use Rattle.std.specs.Prelude.{◌≡◌, ◌==◌, position};
 ghost use Rattle.bound_base.specs.Image.{part_place, refusal};
-ghost use Rattle.byte_view.specs.Numbers.{le};
-ghost use Rattle.byte_view.specs.Reading.{Reads, field};
+ghost use Rattle.byte_view.specs.Reading.{Reads, WantsMemory, field};
 ghost use Rattle.byte_view.specs.Heaps.{text_at as text_of};
 
 use bound_base::{BadImage, Part};
-use byte_view::{le16, le32, le64};
+use byte_view::{le16, le32};
+
+/// The refusal of a part at a file offset.
+pub fn bad(part: Part, at: usize) -> BadImage
+    ensures { refusal result ≡ Some (part_place part, at) }
+{
+    BadImage::Bad {
+        part,
+        at: at as u64,
+    }
+}
 
 /// A number of two bytes.
 pub fn field16(part: Part, image: &[u8], at: usize) -> Result<u16, BadImage>
-    ensures { Reads refusal (λ x. x) result (field (part_place part) image.now at 2) }
+    ensures reads { Reads refusal (λ x. x) result (field (part_place part) image.now at 2) }
+    ensures memory { ¬ WantsMemory refusal result }
 {
-    match le16(image, at) {
-        Some(number) => Ok(number),
-        None => Err(BadImage::Bad {
-            part,
-            at: at as u64,
-        }),
-    }
+    le16(image, at).ok_or(bad(part, at))
 }
 
 /// A number of four bytes.
 pub fn field32(part: Part, image: &[u8], at: usize) -> Result<u32, BadImage>
-    ensures { Reads refusal (λ x. x) result (field (part_place part) image.now at 4) }
+    ensures reads { Reads refusal (λ x. x) result (field (part_place part) image.now at 4) }
+    ensures memory { ¬ WantsMemory refusal result }
 {
-    match le32(image, at) {
-        Some(number) => Ok(number),
-        None => Err(BadImage::Bad {
-            part,
-            at: at as u64,
-        }),
-    }
-}
-
-/// The byte at a place that is there.
-#[tactic(auto, using(crate::proofs::Numbers::le_byte))]
-pub fn byte_at(bytes: &[u8], at: usize) -> u8
-    requires { at < length bytes.now }
-    ensures { result ≡ le bytes.now at 1 }
-{
-    bytes[at]
-}
-
-/// The number in eight bytes that are there, lowest byte first.
-pub fn number64(bytes: &[u8], at: usize) -> u64
-    requires { at + 8 ≤ length bytes.now }
-    ensures { result ≡ le bytes.now at 8 }
-{
-    le64(bytes, at).unwrap_or(0)
+    le32(image, at).ok_or(bad(part, at))
 }
 
 /// The place of the first zero.

@@ -1,6 +1,6 @@
 //! The heaps and their entries (ECMA-335 II.24.2.3 and II.24.2.4).
 
-ghost use Rattle.std.specs.Prelude.{◌≡◌, ◌<◌, ◌≤◌, IfOk};
+ghost use Rattle.std.specs.Prelude.{◌≡◌, ◌<◌, ◌≤◌, length, IfOk, IsErr};
 ghost use Rattle.std.specs.Option.{option_copied};
 ghost use Rattle.byte_view.specs.Heaps.{blob_at, units_of};
 ghost use Rattle.byte_view.specs.Streams.{heap_of};
@@ -9,7 +9,7 @@ ghost use Rattle.meta_tables.specs.Cells.{AreHeapsOf};
 
 use crate::streams::{Range, Streams};
 use bound_base::{NoMemory, Units};
-use byte_view::{compressed, le16};
+use byte_view::{compressed, number16};
 use std::alloc::Global;
 
 /// The bytes of the heaps; a missing heap is empty.
@@ -63,11 +63,12 @@ pub fn entry_at(heap: &[u8], at: usize) -> Option<&[u8]>
 
 /// Bytes as UTF-16 units, lowest byte first; an odd last byte belongs to none.
 pub fn units(alloc: Global, bytes: &[u8]) -> Result<Units, NoMemory>
-    ensures { IfOk result (λ units. units ≡ units_of bytes.now) }
+    ensures units { IfOk result (λ units. units ≡ units_of bytes.now) }
+    ensures memory { IsErr result → 1 ≤ length (units_of bytes.now) }
 {
     let mut units = Units::new(alloc);
     for at in 0..bytes.len() / 2 {
-        units.push(le16(bytes, 2 * at).unwrap_or(0))?;
+        units.push(number16(bytes, 2 * at))?;
     }
     Ok(units)
 }

@@ -1,18 +1,19 @@
 //! How the `#~` stream is laid out: its header, the row counts, and the tables one after another
 //! (ECMA-335 II.24.2.6). `image` is the file up to the end of the stream, which begins at `start`.
 
-ghost use Rattle.std.specs.Prelude.{◌≡◌, ◌||◌, not, ◌+◌, ◌<◌, ◌≤◌, ◌*◌, ◌^◌, sum_by, map, length, slice_get, IfOk};
+ghost use Rattle.std.specs.Prelude.{◌≡◌, ◌||◌, not, ◌+◌, ◌<◌, ◌≤◌, ◌*◌, ◌^◌, sum_by, map, length, slice_get, IfOk, IsOk};
 ghost use Rattle.std.specs.List.{range_with_len};
 ghost use Rattle.bound_base.specs.Image.{refusal};
-ghost use Rattle.byte_view.specs.Reading.{Reads, each, listed};
+ghost use Rattle.byte_view.specs.Reading.{Reads, WantsMemory, each, listed};
 ghost use Rattle.byte_view.specs.Columns.{is_table as names_table, table_numbers};
-ghost use Rattle.byte_view.specs.Layout.{is_present, present_below as presents, count_place as place_of_count, row_count, start_of, layout};
+ghost use Rattle.byte_view.specs.Layout.{is_present, present_below as presents, count_place as place_of_count, row_count, start_of, header, layout};
 ghost use Rattle.meta_tables.specs.View.{bytes_of, view_column};
 ghost use Rattle.meta_tables.specs.Shapes.{view_shape, shape_of, width_at, cell_widths, view_layout, HasShapes, tests_valid};
 
 use crate::columns::{Column, Width, columns, rows_at, width_of};
-use crate::fields::{byte_at, field32, number64};
+use crate::fields::{bad, field32};
 use bound_base::{BadImage, Part};
+use byte_view::{number8, number64};
 use std::alloc::Global;
 
 /// How many table numbers there are, up to the last table.
@@ -34,22 +35,21 @@ pub struct Layout {
     pub shapes: Vec<Shape>,
 }
 
-/// The layout of the stream, or the first field of it that is missing or wrong.
+/// The layout of the stream, or the first field of it that is missing or wrong. Memory is wanted only where the stream's
+/// header is sound.
 #[tactic(auto, unfolding(byte_view::specs::Layout::layout))]
 pub fn read_layout(alloc: Global, image: &[u8], start: usize) -> Result<Layout, BadImage>
     requires { start ≤ length image.now }
     ensures reads { Reads refusal view_layout result (layout image.now start) }
     ensures shapes { IfOk result HasShapes }
+    ensures memory { WantsMemory refusal result → IsOk (header image.now start) }
 {
     if image.len() - start < 24 {
-        return Err(BadImage::Bad {
-            part: Part::Tables,
-            at: start as u64,
-        });
+        return Err(bad(Part::Tables, start));
     }
-    let heap_sizes = byte_at(image, start + 6);
+    let heap_sizes = number8(image, start + 6);
     let valid = number64(image, start + 8);
-    check_valid(valid, (start + 8) as u64)?;
+    check_valid(valid, start + 8)?;
     let rows = row_counts(alloc, image, start, valid)?;
     let (starts, shapes) = lay_out(alloc, image, start, valid, heap_sizes, rows.as_slice())?;
     Ok(Layout {
@@ -84,15 +84,13 @@ fn is_valid(valid: u64, table: u8) -> bool
 }
 
 /// Refuses Valid where it has a bit that is no table's.
-fn check_valid(valid: u64, at: u64) -> Result<(), BadImage>
-    ensures { Reads refusal (λ _. 0) result (each (tests_valid valid at) 64) }
+fn check_valid(valid: u64, at: usize) -> Result<(), BadImage>
+    ensures reads { Reads refusal (λ _. 0) result (each (tests_valid valid at) 64) }
+    ensures memory { ¬ WantsMemory refusal result }
 {
     for table in 0..64 {
         if !is_valid(valid, table) {
-            return Err(BadImage::Bad {
-                part: Part::Tables,
-                at,
-            });
+            return Err(bad(Part::Tables, at));
         }
     }
     Ok(())
@@ -128,7 +126,8 @@ fn count_place(start: usize, valid: u64, table: u8) -> usize
 fn row_count_of(image: &[u8], start: usize, valid: u64, table: u8) -> Result<u32, BadImage>
     requires table { table < 64 }
     requires start { start < 2 ^ 63 }
-    ensures { Reads refusal (λ x. x) result (row_count image.now start valid table) }
+    ensures reads { Reads refusal (λ x. x) result (row_count image.now start valid table) }
+    ensures memory { ¬ WantsMemory refusal result }
 {
     if is_there(valid, table) {
         field32(Part::Tables, image, count_place(start, valid, table))
@@ -140,7 +139,8 @@ fn row_count_of(image: &[u8], start: usize, valid: u64, table: u8) -> Result<u32
 /// The row counts of all tables.
 fn row_counts(alloc: Global, image: &[u8], start: usize, valid: u64) -> Result<Vec<u32>, BadImage>
     requires { start < 2 ^ 63 }
-    ensures { Reads refusal (λ rows. rows.items) result (listed (row_count image.now start valid) table_numbers) }
+    ensures { Reads refusal (λ rows. rows.items) result
+        (listed (row_count image.now start valid) table_numbers) }
 {
     let mut rows = Vec::new(alloc);
     for table in 0..TABLE_NUMBERS {
@@ -149,7 +149,7 @@ fn row_counts(alloc: Global, image: &[u8], start: usize, valid: u64) -> Result<V
     Ok(rows)
 }
 
-/// The width of a column by its place in its table; none behind the last.
+/// The width of a column by its place in its table; none after the last.
 fn cell_width(heap_sizes: u8, rows: &[u32], columns: &[Column], at: usize) -> Width
     ensures { bytes_of result ≡ width_at heap_sizes rows.now (slice_get (map view_column columns.now) at) }
 {
@@ -215,8 +215,10 @@ fn lay_out(
     rows: &[u32],
 ) -> Result<(Vec<usize>, Vec<Shape>), BadImage>
     requires { start ≤ length image.now }
-    ensures starts { Reads refusal (λ x. x.0.items) result (listed (start_of image.now start valid heap_sizes rows.now) table_numbers) }
-    ensures shapes { IfOk result (λ x. map view_shape x.1.items ≡ map (shape_of heap_sizes rows.now) (range_with_len 0 table_numbers)) }
+    ensures starts { Reads refusal (λ x. x.0.items) result
+        (listed (start_of image.now start valid heap_sizes rows.now) table_numbers) }
+    ensures shapes { IfOk result (λ x. map view_shape x.1.items
+        ≡ map (shape_of heap_sizes rows.now) (range_with_len 0 table_numbers)) }
 {
     let mut starts = Vec::new(alloc);
     let mut shapes = Vec::new(alloc);
@@ -226,10 +228,7 @@ fn lay_out(
         let end = at + rows_size(rows_at(rows, table), shape.row_width);
         if end > image.len() {
             let count_at = count_place(start, valid, table);
-            return Err(BadImage::Bad {
-                part: Part::Tables,
-                at: count_at as u64,
-            });
+            return Err(bad(Part::Tables, count_at));
         }
         starts.push(at)?;
         shapes.push(shape)?;

@@ -1,10 +1,10 @@
 //! The metadata of an image: its heaps, and the rows of its tables.
 
-ghost use Rattle.std.specs.Prelude.{◌≡◌, ◌+◌, ◌≤◌, length, IfOk};
+ghost use Rattle.std.specs.Prelude.{◌≡◌, ◌+◌, ◌≤◌, length, take, IfOk, IsOk, IsErr, IsSomeAnd};
 ghost use Rattle.std.specs.Option.{option_copied};
 ghost use Rattle.bound_base.specs.Image.{refusal};
-ghost use Rattle.byte_view.specs.Reading.{Reads};
-ghost use Rattle.byte_view.specs.Assembly.{metadata};
+ghost use Rattle.byte_view.specs.Reading.{Reads, WantsMemory};
+ghost use Rattle.byte_view.specs.Assembly.{header_in, metadata};
 ghost use Rattle.byte_view.specs.Cells.{rows_in};
 ghost use Rattle.byte_view.specs.Heaps.{text_at as text_of, blob_at, user_string_at};
 ghost use Rattle.byte_view.specs.Metadata.{row_of, row_place};
@@ -45,10 +45,13 @@ impl<'a> Model for Meta<'a> {
 ///
 /// An image is refused for its first part that is broken, from the metadata root to the cells of the checked tables
 /// (ECMA-335 II.24.2 and II.22), at the file offset of the first field that is missing or wrong; and with
-/// `BadImage::Memory` where there is no memory for the places of the tables.
+/// `BadImage::Memory` where there is no memory for the places of the tables, which are asked for once the streams and the
+/// header of `#~` are sound.
 pub fn read_meta(alloc: Global, bytes: &[u8], at: u64, size: u32) -> Result<Meta<'_>, BadImage>
     requires { at + size ≤ length bytes.now }
-    ensures { Reads refusal (λ m. m) result (metadata bytes.now at size) }
+    ensures reads { Reads refusal (λ m. m) result (metadata bytes.now at size) }
+    ensures memory { WantsMemory refusal result
+        → IsOk (header_in (take (at + size) bytes.now) at) }
 {
     let at = at as usize;
     let image = &bytes[..at + size as usize];
@@ -112,9 +115,12 @@ impl Meta<'_> {
     }
 
     /// The UTF-16 units of the entry at an offset of `#US` (ECMA-335 II.24.2.4): its bytes by two, an odd last byte left
-    /// out. None where the heap holds no whole entry there; an error where there is no memory for the units.
+    /// out. None where the heap holds no whole entry there; an error where there is no memory for the units, of which
+    /// there is at least one then.
     pub fn user_string(&self, alloc: Global, at: u32) -> Result<Option<Units>, NoMemory>
-        ensures { IfOk result (λ units. units ≡ user_string_at self.now.user_strings at) }
+        ensures units { IfOk result (λ units. units ≡ user_string_at self.now.user_strings at) }
+        ensures memory { IsErr result
+            → IsSomeAnd (user_string_at self.now.user_strings at) (λ units. 1 ≤ length units) }
     {
         match entry_at(self.heaps.user_strings, at as usize) {
             Some(entry) => Ok(Some(units(alloc, entry)?)),

@@ -9,9 +9,8 @@ ghost use Rattle.meta_tables.specs.View.{bytes_of};
 ghost use Rattle.meta_tables.specs.Shapes.{view_shape, shape_of, view_layout, HasShapes, IsLaidOut, cells_at};
 
 use crate::columns::Width;
-use crate::fields::byte_at;
 use crate::layout::{Layout, Shape};
-use byte_view::{le16, le32};
+use byte_view::{number8, number16, number32};
 
 /// The number in a cell that is there.
 #[tactic(auto, using(crate::proofs::Numbers::le_none))]
@@ -21,9 +20,9 @@ fn cell(stream: &[u8], at: usize, width: Width) -> u32
 {
     match width {
         Width::None => 0,
-        Width::One => u32::from(byte_at(stream, at)),
-        Width::Two => u32::from(le16(stream, at).unwrap_or(0)),
-        Width::Four => le32(stream, at).unwrap_or(0),
+        Width::One => u32::from(number8(stream, at)),
+        Width::Two => u32::from(number16(stream, at)),
+        Width::Four => number32(stream, at),
     }
 }
 

@@ -3,11 +3,11 @@
 
 ghost use Rattle.std.specs.Prelude.{◌≡◌, ◌≤◌, length, Some, IfOk};
 ghost use Rattle.bound_base.specs.Image.{refusal};
-ghost use Rattle.byte_view.specs.Reading.{Reads};
+ghost use Rattle.byte_view.specs.Reading.{Reads, WantsMemory};
 ghost use Rattle.byte_view.specs.Streams.{root, stream_name, stream_at, with_stream, streams_after, streams};
 ghost use Rattle.meta_tables.specs.View.{view_streams, view_stream, view_range, IsWithin, AreWithin};
 
-use crate::fields::{field16, field32, text_at};
+use crate::fields::{bad, field16, field32, text_at};
 use bound_base::{BadImage, Part};
 
 /// A range of the file.
@@ -38,23 +38,18 @@ struct Stream<'a> {
 /// The number of streams, and where their headers begin.
 #[tactic(auto, unfolding(byte_view::specs::Streams::root))]
 fn root_of(image: &[u8], at: usize) -> Result<(u16, usize), BadImage>
-    ensures { Reads refusal (λ x. (x.0, x.1)) result (root image.now at) }
+    ensures reads { Reads refusal (λ x. (x.0, x.1)) result (root image.now at) }
+    ensures memory { ¬ WantsMemory refusal result }
 {
     let part = Part::MetadataRoot;
     let signature = field32(part, image, at)?;
     if signature != 0x424A_5342 {
-        return Err(BadImage::Bad {
-            part,
-            at: at as u64,
-        });
+        return Err(bad(part, at));
     }
     let length = field32(part, image, at + 12)?;
     let text_end = at + 16 + length as usize;
     if text_end > image.len() {
-        return Err(BadImage::Bad {
-            part,
-            at: (at + 12) as u64,
-        });
+        return Err(bad(part, at + 12));
     }
     let count = field16(part, image, text_end + 2)?;
     Ok((count, text_end + 4))
@@ -64,18 +59,15 @@ fn root_of(image: &[u8], at: usize) -> Result<(u16, usize), BadImage>
 #[tactic(auto, unfolding(byte_view::specs::Streams::stream_name))]
 fn name_of(image: &[u8], place: usize) -> Result<&[u8], BadImage>
     requires { place ≤ length image.now }
-    ensures { Reads refusal (λ name. name.now) result (stream_name image.now place) }
+    ensures reads { Reads refusal (λ name. name.now) result (stream_name image.now place) }
+    ensures memory { ¬ WantsMemory refusal result }
 {
-    let bad = BadImage::Bad {
-        part: Part::Streams,
-        at: place as u64,
-    };
     let Some(name) = text_at(image, place) else {
-        return Err(bad);
+        return Err(bad(Part::Streams, place));
     };
     let end = place + (name.len() / 4 + 1) * 4;
     if end > image.len() || name == b"#-".as_slice() {
-        return Err(bad);
+        return Err(bad(Part::Streams, place));
     }
     Ok(name)
 }
@@ -85,23 +77,18 @@ fn name_of(image: &[u8], place: usize) -> Result<&[u8], BadImage>
 fn stream_of(image: &[u8], at: usize, place: usize) -> Result<Stream<'_>, BadImage>
     requires { at ≤ length image.now }
     ensures reads { Reads refusal view_stream result (stream_at image.now at place) }
+    ensures memory { ¬ WantsMemory refusal result }
     ensures within { IfOk result (λ stream. IsWithin image.now (Some (view_range stream.range))) }
 {
     let part = Part::Streams;
     let offset = field32(part, image, place)? as usize;
     if at + offset > image.len() {
-        return Err(BadImage::Bad {
-            part,
-            at: place as u64,
-        });
+        return Err(bad(part, place));
     }
     let size = field32(part, image, place + 4)? as usize;
     let start = at + offset;
     if start + size > image.len() {
-        return Err(BadImage::Bad {
-            part,
-            at: (place + 4) as u64,
-        });
+        return Err(bad(part, place + 4));
     }
     let name = name_of(image, place + 8)?;
     Ok(Stream {
@@ -135,7 +122,7 @@ fn added(streams: Streams, stream: Stream<'_>) -> Streams
     all
 }
 
-/// The streams of `count` headers from `first` on, and the place behind them.
+/// The streams of `count` headers from `first` on, and the place after them.
 fn streams_of(
     image: &[u8],
     at: usize,
@@ -143,7 +130,9 @@ fn streams_of(
     count: u16,
 ) -> Result<(Streams, usize), BadImage>
     requires { at ≤ length image.now }
-    ensures reads { Reads refusal (λ x. (view_streams x.0, x.1)) result (streams_after image.now at first count) }
+    ensures reads { Reads refusal (λ x. (view_streams x.0, x.1)) result
+        (streams_after image.now at first count) }
+    ensures memory { ¬ WantsMemory refusal result }
     ensures within { IfOk result (λ x. AreWithin image.now (view_streams x.0)) }
 {
     let mut all = Streams {
@@ -166,16 +155,16 @@ fn streams_of(
 #[tactic(auto, unfolding(byte_view::specs::Streams::streams))]
 pub fn read_streams(image: &[u8], at: usize) -> Result<(Range, Streams), BadImage>
     requires { at ≤ length image.now }
-    ensures reads { Reads refusal (λ x. (view_range x.0, view_streams x.1)) result (streams image.now at) }
-    ensures within { IfOk result (λ x. IsWithin image.now (Some (view_range x.0)) × AreWithin image.now (view_streams x.1)) }
+    ensures reads { Reads refusal (λ x. (view_range x.0, view_streams x.1)) result
+        (streams image.now at) }
+    ensures memory { ¬ WantsMemory refusal result }
+    ensures within { IfOk result (λ x.
+        IsWithin image.now (Some (view_range x.0)) × AreWithin image.now (view_streams x.1)) }
 {
     let (count, first) = root_of(image, at)?;
-    let (all, behind) = streams_of(image, at, first, count)?;
+    let (all, after) = streams_of(image, at, first, count)?;
     match all.tables {
         Some(tables) => Ok((tables, all)),
-        None => Err(BadImage::Bad {
-            part: Part::Streams,
-            at: behind as u64,
-        }),
+        None => Err(bad(Part::Streams, after)),
     }
 }

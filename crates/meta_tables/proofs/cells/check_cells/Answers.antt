@@ -15,18 +15,18 @@ loop-table-init c = each_none (λ k. check_table (view_layout c.args.layout.now)
 pub check_table-requires-clause-table : goal.check_table-requires-clause-table
 check_table-requires-clause-table c = is_checked c.loop-table.table-index
 
-pub returns-in_err-check_table : goal.returns-in_err-check_table
+pub returns-in_err-check_table-clause-reads : goal.returns-in_err-check_table-clause-reads
 unfolding check_cells
-returns-in_err-check_table c =
+returns-in_err-check_table-clause-reads c =
     let p = err_from_is_err_and c.from_residual.result c.from_residual.ensures.1 in
-    rw (p.1, p.2) (each_refused refusal c.in_err-check_table.field-0.0 (λ k. check_table (view_layout c.args.layout.now) (metadata_of c.args.heaps.now c.args.stream.now c.args.layout.now) (get_or checked_tables k 0)) c.loop-table.table-index 19 0 c.loop-table.invariant c.loop-table-test.true c.in_err-check_table.ensures)
+    rw (p.1, p.2) (each_refused refusal c.in_err-check_table.field-0.0 (λ k. check_table (view_layout c.args.layout.now) (metadata_of c.args.heaps.now c.args.stream.now c.args.layout.now) (get_or checked_tables k 0)) c.loop-table.table-index 19 0 c.loop-table.invariant c.loop-table-test.true c.in_err-check_table.ensures.reads)
 
 pub loop-table-preserved : goal.loop-table-preserved
 loop-table-preserved c =
-    each_more (λ k. check_table (view_layout c.args.layout.now) (metadata_of c.args.heaps.now c.args.stream.now c.args.layout.now) (get_or checked_tables k 0)) c.loop-table.table-index 0 0 c.loop-table.invariant c.in_ok-check_table.ensures
+    each_more (λ k. check_table (view_layout c.args.layout.now) (metadata_of c.args.heaps.now c.args.stream.now c.args.layout.now) (get_or checked_tables k 0)) c.loop-table.table-index 0 0 c.loop-table.invariant c.in_ok-check_table.ensures.reads
 
-pub returns : goal.returns
+pub returns-clause-reads : goal.returns-clause-reads
 unfolding check_cells
-returns c =
+returns-clause-reads c =
     let done : c.loop-table.table-index ≡ 19 = omega arith in
     rw done at c.loop-table.invariant

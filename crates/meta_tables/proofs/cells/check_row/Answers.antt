@@ -17,11 +17,11 @@ loop-column-init c = record {
   small = omega arith;
 }
 
-pub returns-then-not-is_sound : goal.returns-then-not-is_sound
-returns-then-not-is_sound c =
+pub returns-then-not-is_sound-clause-reads : goal.returns-then-not-is_sound-clause-reads
+returns-then-not-is_sound-clause-reads c =
     let test = test_is (sizes_of c.args.heaps.now c.args.rows.now) c.args.columns.now c.args.widths.now c.args.start c.args.before.now c.args.row.now c.loop-column.column (cols.Number widths.None) c.loop-column-test.true in
     let fails = test ∙ must_fail _ (12, c.args.start + sum_by bytes_of (take c.loop-column.column c.args.widths.now)) (sym c.is_sound.ensures ∙ c.if-not-is_sound.true) in
-    rw c.loop-column.invariant.place
+    rw (c.bad.ensures, c.loop-column.invariant.place)
     (each_fails (tests_row (sizes_of c.args.heaps.now c.args.rows.now) (map view_column c.args.columns.now) (map bytes_of c.args.widths.now) c.args.start c.args.before.now c.args.row.now) c.loop-column.column (length c.args.columns.now) 0 _ c.loop-column.invariant.passed fails c.loop-column-test.true)
 
 pub loop-column-preserved : goal.loop-column-preserved

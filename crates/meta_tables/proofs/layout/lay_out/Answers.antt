@@ -18,7 +18,7 @@ pub returns-then-end-image-clause-starts : goal.returns-then-end-image-clause-st
 returns-then-end-image-clause-starts c =
     let next = end_is c.args.start c.args.valid c.args.heap_sizes c.args.rows.now c.loop-table.table c.loop-table.at c.rows_at.result c.shape_rows-shape.result c.rows_size.result c.loop-table.invariant.at c.rows_at.ensures c.shape_rows-shape.ensures.shape c.rows_size.ensures.size in
     let fails = start_fails c.args.image.now c.args.start c.args.valid c.args.heap_sizes c.args.rows.now c.loop-table.table (c.loop-table.at + c.rows_size.result) next c.if-end-image.true in
-    rw c.count_place-count_at.ensures.place
+    rw (c.bad.ensures, c.count_place-count_at.ensures.place)
     (listed_fails (start_of c.args.image.now c.args.start c.args.valid c.args.heap_sizes c.args.rows.now) c.loop-table.table 45 c.loop-table.starts.items _ c.loop-table.invariant.starts fails c.loop-table-test.true)
 
 pub loop-table-preserved : goal.loop-table-preserved
