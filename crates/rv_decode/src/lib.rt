@@ -8,11 +8,13 @@ mod fields;
 mod formats;
 mod instr;
 pub mod laws;
+mod lengths;
 mod opcodes;
 
 pub use decoding::decode;
 pub use encoding::encode;
 pub use instr::Instr;
+pub use lengths::length_of;
 
 #[cfg(test)]
 mod tests;

@@ -9,6 +9,7 @@ use Rattle.native_memory.specs.AddressSpace.{AddressSpace, lowest}
 use Rattle.native_memory.specs.Ranges.{word_at, written_at}
 use Rattle.rv_decode.specs.declared.instr.Instr.{Instr}
 use Rattle.rv_decode.specs.Decoding.{decoded}
+use Rattle.rv_decode.specs.Lengths.{length_of}
 use Rattle.rv_machine.specs.declared.effect.Effect.{Effect}
 use Rattle.rv_machine.specs.declared.effect.Effect.TheVariants.{Set, Jump, Branch, Load, Store, Nothing, Trap}
 use Rattle.rv_machine.specs.declared.outcome.Step.{Step}
@@ -52,40 +53,41 @@ jumped_apart s v x y target e = elim (target % 4 == 0) as (λ b.
       | false ↦ refl
     ]
 
-result_apart : (s : State) (v d w : ℕ) → (Went, with_result (with_x0 s v) d w) ≡ apart v (Went, with_result s d w)
+result_apart : (s : State) (v len d w : ℕ) → (Went, with_result (with_x0 s v) len d w) ≡ apart v (Went, with_result s len d w)
 unfolding went_with
-result_apart s v d w = ap (went_with s (next_pc s.pc)) (write_apart s.x v d w)
+result_apart s v len d w = ap (went_with s (next_pc s.pc len)) (write_apart s.x v d w)
 
 -- each part of a step, from other contents of x0
-loaded_apart : (s : State) (v d addr len : ℕ) (o : Option ℕ) → loaded (with_x0 s v) d addr len o ≡ apart v (loaded s d addr len o)
-loaded_apart s v d addr len (Some value) = result_apart s v d value
-loaded_apart s v d addr len None = refl
+loaded_apart : (s : State) (v len d addr size : ℕ) (o : Option ℕ) → loaded (with_x0 s v) len d addr size o ≡ apart v (loaded s len d addr size o)
+loaded_apart s v len d addr size (Some value) = result_apart s v len d value
+loaded_apart s v len d addr size None = refl
 
-stored_apart : (s : State) (v addr len : ℕ) (o : Option AddressSpace) → stored (with_x0 s v) addr len o ≡ apart v (stored s addr len o)
-stored_apart s v addr len (Some memory) = refl
-stored_apart s v addr len None = refl
+stored_apart : (s : State) (v len addr size : ℕ) (o : Option AddressSpace) → stored (with_x0 s v) len addr size o ≡ apart v (stored s len addr size o)
+stored_apart s v len addr size (Some memory) = refl
+stored_apart s v len addr size None = refl
 
-applied_apart : (s : State) (v : ℕ) (e : Effect) → applied (with_x0 s v) e ≡ apart v (applied s e)
-applied_apart s v (Set d w) = result_apart s v d w
-applied_apart s v (Jump d t) = jumped_apart s v (with_register s.x d (next_pc s.pc)) (with_register (set s.x 0 v) d (next_pc s.pc)) t (write_apart s.x v d (next_pc s.pc))
-applied_apart s v (Branch true t) = jumped_apart s v s.x (set s.x 0 v) t refl
-applied_apart s v (Branch false t) = refl
-applied_apart s v (Load d addr width signed) =
-    let len : ℕ = byte_len (size_of width) in
-    loaded_apart s v d addr len (option_map (extended_from width signed) (number_at s.memory addr len))
-applied_apart s v (Store addr width value) =
-    let len : ℕ = byte_len (size_of width) in
-    stored_apart s v addr len (written_at s.memory addr (little_bytes len value))
-applied_apart s v Nothing = refl
-applied_apart s v Trap = refl
+applied_apart : (s : State) (v len : ℕ) (e : Effect) → applied (with_x0 s v) len e ≡ apart v (applied s len e)
+applied_apart s v len (Set d w) = result_apart s v len d w
+applied_apart s v len (Jump d t) =
+    jumped_apart s v (with_register s.x d (next_pc s.pc len)) (with_register (set s.x 0 v) d (next_pc s.pc len)) t (write_apart s.x v d (next_pc s.pc len))
+applied_apart s v len (Branch true t) = jumped_apart s v s.x (set s.x 0 v) t refl
+applied_apart s v len (Branch false t) = refl
+applied_apart s v len (Load d addr width signed) =
+    let size : ℕ = byte_len (size_of width) in
+    loaded_apart s v len d addr size (option_map (extended_from width signed) (number_at s.memory addr size))
+applied_apart s v len (Store addr width value) =
+    let size : ℕ = byte_len (size_of width) in
+    stored_apart s v len addr size (written_at s.memory addr (little_bytes size value))
+applied_apart s v len Nothing = refl
+applied_apart s v len Trap = refl
 
-performed_apart : (s : State) (v : ℕ) (o : Option Instr) → performed (with_x0 s v) o ≡ apart v (performed s o)
-performed_apart s v (Some i) =
-    ap (λ x. applied (with_x0 s v) (effect i s.pc x)) (same_registers s.x v) ∙ applied_apart s v (effect i s.pc (register s.x))
-performed_apart s v None = refl
+performed_apart : (s : State) (v len : ℕ) (o : Option Instr) → performed (with_x0 s v) len o ≡ apart v (performed s len o)
+performed_apart s v len (Some i) =
+    ap (λ x. applied (with_x0 s v) len (effect i s.pc x)) (same_registers s.x v) ∙ applied_apart s v len (effect i s.pc (register s.x))
+performed_apart s v len None = refl
 
 fetched_apart : (s : State) (v : ℕ) (o : Option ℕ) → fetched (with_x0 s v) o ≡ apart v (fetched s o)
-fetched_apart s v (Some w) = performed_apart s v (decoded w)
+fetched_apart s v (Some w) = performed_apart s v (length_of w) (decoded w)
 fetched_apart s v None = refl
 
 pub zero_register_is_free : ZeroRegisterIsFree

@@ -30,4 +30,10 @@ at_addw a b = record {
 abbrev pub AddwWraps : Type 0
 AddwWraps =
     rv_step (at_addw 0x7FFFFFFF 1)
-    ≡ (Went, record (at_addw 0x7FFFFFFF 1) { pc = 65540; x = replicate 10 0 ++ 0xFFFFFFFF80000000 ∷ 1 ∷ replicate 20 0 })
+    ≡ (
+      Went,
+      record (at_addw 0x7FFFFFFF 1) {
+        pc = 65540;
+        x = replicate 10 0 ++ 0xFFFFFFFF80000000 ∷ 1 ∷ replicate 20 0;
+      },
+    )

@@ -16,8 +16,8 @@ upper z = z *ℤ pos (2 ^ 12)
 abbrev pub even : ℕ → ℕ
 even n = n / 2 * 2
 
--- d is the destination register, a and b the sources, `x r` the word in register r, and z a signed immediate. A shift is by the low 6 bits of its amount, one on 32 bits by
--- the low 5.
+-- d is the destination register, a and b the sources, `x r` the word in register r, and z a signed
+-- immediate. A shift is by the low 6 bits of its amount, one on 32 bits by the low 5.
 abbrev pub effect : Instr → ℕ → (ℕ → ℕ) → Effect
 effect (Lui d z) pc x = Set d (word (upper z))
 effect (Auipc d z) pc x = Set d (word (pos pc +ℤ upper z))

@@ -1,11 +1,13 @@
 -- The machine: its state, what an effect makes of it, and its step.
-use Rattle.std.specs.Prelude.{ℕ, ◌+◌, ◌%◌, Bool, false, true, nat_lt, ◌==◌, pos, List, Option, Some, None, option_map, if◌then◌else◌}
+use Rattle.std.specs.Prelude.{ℕ, ◌+◌, ◌%◌, Bool, false, true, nat_lt, ◌==◌, pos, List}
+use Rattle.std.specs.Prelude.{Option, Some, None, option_map, if◌then◌else◌}
 use Rattle.std.specs.Int.{Width as Size, w8, w16, w32, w64, cast_signed, byte_len}
 use Rattle.byteorder.specs.Endian.{little_number, little_bytes}
 use Rattle.native_memory.specs.AddressSpace.{AddressSpace, lowest}
 use Rattle.native_memory.specs.Ranges.{may_read, bytes_at, word_at, written_at}
 use Rattle.rv_decode.specs.declared.instr.Instr.{Instr}
 use Rattle.rv_decode.specs.Decoding.{decoded}
+use Rattle.rv_decode.specs.Lengths.{length_of}
 use Rattle.rv_machine.specs.declared.effect.Effect.{Effect}
 use Rattle.rv_machine.specs.declared.effect.Effect.TheVariants.{Set, Jump, Branch, Load, Store, Nothing, Trap}
 use Rattle.rv_machine.specs.declared.effect.Width.{Width}
@@ -27,21 +29,22 @@ pub record State : Type 0 where
 abbrev pub state_of : Regs → AddressSpace → State
 state_of regs memory = record { pc = regs.pc; x = regs.x; memory = memory }
 
--- the next instruction
-abbrev pub next_pc : ℕ → ℕ
-next_pc pc = word (pos (pc + 4))
+-- the next instruction, after one of so many bytes
+abbrev pub next_pc : ℕ → ℕ → ℕ
+next_pc pc len = word (pos (pc + len))
 
 -- the fault of an instruction that can't be executed at an address: it names the four bytes there
 abbrev pub no_instruction : ℕ → Step
 no_instruction addr = Faults (record { addr = addr; len = 4; write = false })
 
 -- at the next instruction, with a word in a register
-abbrev pub with_result : State → ℕ → ℕ → State
-with_result s d value = record s { pc = next_pc s.pc; x = with_register s.x d value }
+abbrev pub with_result : State → ℕ → ℕ → ℕ → State
+with_result s len d value = record s { pc = next_pc s.pc len; x = with_register s.x d value }
 
 -- at a target with these registers, if it is a multiple of 4
 abbrev pub jumped : State → List ℕ → ℕ → Step × State
-jumped s x target = if target % 4 == 0 then (Went, record s { pc = target; x = x }) else (no_instruction target, s)
+jumped s x target =
+    if target % 4 == 0 then (Went, record s { pc = target; x = x }) else (no_instruction target, s)
 
 -- how wide a number in memory is
 abbrev pub size_of : Width → Size
@@ -58,40 +61,45 @@ extended_from width signed n = if signed then word (cast_signed (size_of width) 
 abbrev pub number_at : AddressSpace → ℕ → ℕ → Option ℕ
 number_at space addr len = option_map (little_number len) (bytes_at may_read space addr len)
 
--- a register with what was loaded
-abbrev pub loaded : State → ℕ → ℕ → ℕ → Option ℕ → Step × State
-loaded s d addr len (Some value) = (Went, with_result s d value)
-loaded s d addr len None = (Faults (record { addr = addr; len = len; write = false }), s)
+-- a register with what was loaded from an address, after an instruction of `len` bytes
+abbrev pub loaded : State → ℕ → ℕ → ℕ → ℕ → Option ℕ → Step × State
+loaded s len d addr size (Some value) = (Went, with_result s len d value)
+loaded s len d addr size None =
+    (Faults (record { addr = addr; len = size; write = false }), s)
 
--- memory with what was stored
-abbrev pub stored : State → ℕ → ℕ → Option AddressSpace → Step × State
-stored s addr len (Some memory) = (Went, record s { pc = next_pc s.pc; memory = memory })
-stored s addr len None = (Faults (record { addr = addr; len = len; write = true }), s)
+-- memory with what was stored at an address
+abbrev pub stored : State → ℕ → ℕ → ℕ → Option AddressSpace → Step × State
+stored s len addr size (Some memory) = (Went, record s { pc = next_pc s.pc len; memory = memory })
+stored s len addr size None = (Faults (record { addr = addr; len = size; write = true }), s)
 
--- what an effect makes of the state. One that faults leaves it as it was
-abbrev pub applied : State → Effect → Step × State
-applied s (Set d value) = (Went, with_result s d value)
-applied s (Jump d target) = jumped s (with_register s.x d (next_pc s.pc)) target
-applied s (Branch taken target) = if taken then jumped s s.x target else (Went, record s { pc = next_pc s.pc })
-applied s (Load d addr width signed) =
-    let len = byte_len (size_of width) in
-    loaded s d addr len (option_map (extended_from width signed) (number_at s.memory addr len))
-applied s (Store addr width value) =
-    let len = byte_len (size_of width) in
-    stored s addr len (written_at s.memory addr (little_bytes len value))
-applied s Nothing = (Went, record s { pc = next_pc s.pc })
-applied s Trap = (no_instruction s.pc, s)
+-- What the effect of an instruction of `len` bytes makes of the state: the next pc and the link are
+-- by that length, or pc is the target. One that faults leaves the state as it was.
+abbrev pub applied : State → ℕ → Effect → Step × State
+applied s len (Set d value) = (Went, with_result s len d value)
+applied s len (Jump d target) = jumped s (with_register s.x d (next_pc s.pc len)) target
+applied s len (Branch taken target) =
+    if taken then jumped s s.x target else (Went, record s { pc = next_pc s.pc len })
+applied s len (Load d addr width signed) =
+    let size = byte_len (size_of width) in
+    loaded s len d addr size (option_map (extended_from width signed) (number_at s.memory addr size))
+applied s len (Store addr width value) =
+    let size = byte_len (size_of width) in
+    stored s len addr size (written_at s.memory addr (little_bytes size value))
+applied s len Nothing = (Went, record s { pc = next_pc s.pc len })
+applied s len Trap = (no_instruction s.pc, s)
 
--- the effect of the instruction at pc; a word that no instruction has faults
-abbrev pub performed : State → Option Instr → Step × State
-performed s (Some instr) = applied s (effect instr s.pc (register s.x))
-performed s None = (no_instruction s.pc, s)
+-- the effect of the instruction at pc, which takes `len` bytes; a word that no instruction has faults
+abbrev pub performed : State → ℕ → Option Instr → Step × State
+performed s len (Some instr) = applied s len (effect instr s.pc (register s.x))
+performed s len None = (no_instruction s.pc, s)
 
 -- the instruction of the word at pc
 abbrev pub fetched : State → Option ℕ → Step × State
-fetched s (Some code) = performed s (decoded code)
+fetched s (Some code) = performed s (length_of code) (decoded code)
 fetched s None = (no_instruction s.pc, s)
 
--- One step: what it comes to, and the state after it. No instruction stands below the lowest address of a block.
+-- One step: what it comes to, and the state after it. No instruction stands below the lowest address
+-- of a block.
 unfoldable pub rv_step : State → Step × State
-rv_step s = if nat_lt s.pc lowest then (At s.pc, s) else fetched s (word_at s.memory s.pc)
+rv_step s =
+    if nat_lt s.pc lowest then (At s.pc, s) else fetched s (word_at s.memory s.pc)

@@ -14,9 +14,12 @@ use native_memory::{Fault, Memory};
 
 /// The word that a load makes of the number at an address.
 pub fn load(memory: &Memory, addr: u64, width: Width, signed: bool) -> Result<u64, Fault>
-    ensures ok { IfOk result (λ value. option_map (extended_from width signed) (number_at memory.now.space addr (byte_len (size_of width))) ≡ Some value) }
+    ensures ok { IfOk result (λ value.
+        option_map (extended_from width signed)
+        (number_at memory.now.space addr (byte_len (size_of width))) ≡ Some value) }
     ensures err { OnErr result (number_at memory.now.space addr (byte_len (size_of width)) ≡ None) }
-    ensures fault { IfErr result (λ fault. fault ≡ record { addr = addr; len = byte_len (size_of width); write = false }) }
+    ensures fault { IfErr result (λ fault.
+        fault ≡ record { addr = addr; len = byte_len (size_of width); write = false }) }
 {
     match (width, signed) {
         (Width::Byte, true) => Ok(extended(i64::from(byte(memory, addr)?.cast_signed()))),
@@ -31,10 +34,14 @@ pub fn load(memory: &Memory, addr: u64, width: Width, signed: bool) -> Result<u6
 
 /// Writes the low bytes of a word to an address.
 pub fn store(memory: &mut Memory, addr: u64, width: Width, value: u64) -> Result<(), Fault>
-    ensures ok { OnOk result (written_at memory.old.space addr (little_bytes (byte_len (size_of width)) value) ≡ Some memory.new.space) }
-    ensures err { OnErr result (written_at memory.old.space addr (little_bytes (byte_len (size_of width)) value) ≡ None) }
+    ensures ok { OnOk result
+        (written_at memory.old.space addr (little_bytes (byte_len (size_of width)) value)
+        ≡ Some memory.new.space) }
+    ensures err { OnErr result
+        (written_at memory.old.space addr (little_bytes (byte_len (size_of width)) value) ≡ None) }
     ensures unchanged { OnErr result (memory.new ≡ memory.old) }
-    ensures fault { IfErr result (λ fault. fault ≡ record { addr = addr; len = byte_len (size_of width); write = true }) }
+    ensures fault { IfErr result (λ fault.
+        fault ≡ record { addr = addr; len = byte_len (size_of width); write = true }) }
 {
     let bytes = value.to_le_bytes();
     match width {
@@ -48,7 +55,8 @@ pub fn store(memory: &mut Memory, addr: u64, width: Width, value: u64) -> Result
 fn byte(memory: &Memory, addr: u64) -> Result<u8, Fault>
     ensures ok { IfOk result (λ n. number_at memory.now.space addr 1 ≡ Some n) }
     ensures err { OnErr result (number_at memory.now.space addr 1 ≡ None) }
-    ensures fault { IfErr result (λ fault. fault ≡ record { addr = addr; len = 1; write = false }) }
+    ensures fault { IfErr result (λ fault.
+        fault ≡ record { addr = addr; len = 1; write = false }) }
 {
     let mut bytes = [0; 1];
     memory.read(addr, &mut bytes)?;
@@ -58,7 +66,8 @@ fn byte(memory: &Memory, addr: u64) -> Result<u8, Fault>
 fn half(memory: &Memory, addr: u64) -> Result<u16, Fault>
     ensures ok { IfOk result (λ n. number_at memory.now.space addr 2 ≡ Some n) }
     ensures err { OnErr result (number_at memory.now.space addr 2 ≡ None) }
-    ensures fault { IfErr result (λ fault. fault ≡ record { addr = addr; len = 2; write = false }) }
+    ensures fault { IfErr result (λ fault.
+        fault ≡ record { addr = addr; len = 2; write = false }) }
 {
     let mut bytes = [0; 2];
     memory.read(addr, &mut bytes)?;
@@ -68,7 +77,8 @@ fn half(memory: &Memory, addr: u64) -> Result<u16, Fault>
 fn word(memory: &Memory, addr: u64) -> Result<u32, Fault>
     ensures ok { IfOk result (λ n. number_at memory.now.space addr 4 ≡ Some n) }
     ensures err { OnErr result (number_at memory.now.space addr 4 ≡ None) }
-    ensures fault { IfErr result (λ fault. fault ≡ record { addr = addr; len = 4; write = false }) }
+    ensures fault { IfErr result (λ fault.
+        fault ≡ record { addr = addr; len = 4; write = false }) }
 {
     let mut bytes = [0; 4];
     memory.read(addr, &mut bytes)?;
@@ -78,7 +88,8 @@ fn word(memory: &Memory, addr: u64) -> Result<u32, Fault>
 fn double(memory: &Memory, addr: u64) -> Result<u64, Fault>
     ensures ok { IfOk result (λ n. number_at memory.now.space addr 8 ≡ Some n) }
     ensures err { OnErr result (number_at memory.now.space addr 8 ≡ None) }
-    ensures fault { IfErr result (λ fault. fault ≡ record { addr = addr; len = 8; write = false }) }
+    ensures fault { IfErr result (λ fault.
+        fault ≡ record { addr = addr; len = 8; write = false }) }
 {
     let mut bytes = [0; 8];
     memory.read(addr, &mut bytes)?;

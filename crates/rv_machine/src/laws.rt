@@ -1,16 +1,23 @@
 //! Laws of the machine: each function's contract is one.
 
-ghost use Rattle.rv_machine.specs.Laws.{ZeroRegisterIsFree, StepsChangeLittle, FaultsChangeNothing, StopsBelowLowest, HalvesMakeProducts, QuotientsDivide, DivisionHasEdges};
+ghost use Rattle.rv_machine.specs.Laws.{ZeroRegisterIsFree, StepsChangeLittle, StepsKeepBlocks};
+ghost use Rattle.rv_machine.specs.Laws.{FaultsChangeNothing, StopsBelowLowest};
+ghost use Rattle.rv_machine.specs.Laws.{HalvesMakeProducts, QuotientsDivide, DivisionHasEdges};
 
 /// Whatever stands in `x[0]`, a step is the same, and leaves it there.
 pub fn zero_register_is_free()
     ensures { ZeroRegisterIsFree }
 {}
 
-/// A step that went changes at most one register beside pc and at most eight bytes of memory, by one write, and moves pc by
-/// 4 or to a multiple of 4.
+/// A step that went changes at most one register beside pc and at most eight bytes of memory, by one write, and moves pc on by
+/// the length of the instruction, or to a multiple of 4.
 pub fn steps_change_little()
     ensures { StepsChangeLittle }
+{}
+
+/// A step changes bytes alone of memory: no block comes or goes, and each stays what it is.
+pub fn steps_keep_blocks()
+    ensures { StepsKeepBlocks }
 {}
 
 /// A step that didn't go changes nothing.

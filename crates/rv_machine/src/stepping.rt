@@ -1,6 +1,6 @@
 //! One step of the machine.
 
-ghost use Rattle.std.specs.Prelude.{◌≡◌, ◌%◌, ◌==◌, ◌||◌, not, if◌then◌else◌};
+ghost use Rattle.std.specs.Prelude.{◌≡◌, ◌≢◌, ◌%◌, ◌==◌, ◌||◌, not, if◌then◌else◌};
 ghost use Rattle.rv_machine.specs.Machine.{state_of, applied, rv_step, next_pc, no_instruction};
 ghost use Rattle.rv_machine.specs.Registers.{with_register};
 
@@ -10,7 +10,7 @@ use crate::instructions::effect_of;
 use crate::outcome::Step;
 use crate::registers::Regs;
 use native_memory::{Fault, Memory};
-use rv_decode::decode;
+use rv_decode::{decode, length_of};
 
 /// The lowest address at which an instruction may stand.
 const LOWEST: u64 = 65_536;
@@ -24,38 +24,44 @@ const LOWEST: u64 = 65_536;
 #[tactic(auto, unfolding(crate::specs::Machine::rv_step))]
 pub fn step(regs: &mut Regs, memory: &mut Memory) -> Step
     ensures outcome { result ≡ (rv_step (state_of regs.old memory.old.space)).0 }
-    ensures state { state_of regs.new memory.new.space ≡ (rv_step (state_of regs.old memory.old.space)).1 }
+    ensures state { state_of regs.new memory.new.space
+        ≡ (rv_step (state_of regs.old memory.old.space)).1 }
+    ensures registers { result ≢ Step.Went → regs.new ≡ regs.old }
+    ensures memory { result ≢ Step.Went → memory.new ≡ memory.old }
 {
     if regs.pc < LOWEST {
         return Step::At(regs.pc);
     }
     match memory.fetch(regs.pc) {
         Ok(word) => match decode(word) {
-            Some(instr) => apply(effect_of(instr, regs), regs, memory),
+            Some(instr) => apply(effect_of(instr, regs), length_of(word), regs, memory),
             None => no_instruction(regs.pc),
         },
         Err(fault) => Step::Fault(fault),
     }
 }
 
-/// Does what an instruction does, or nothing where that faults.
-fn apply(effect: Effect, regs: &mut Regs, memory: &mut Memory) -> Step
-    ensures outcome { result ≡ (applied (state_of regs.old memory.old.space) effect).0 }
-    ensures state { state_of regs.new memory.new.space ≡ (applied (state_of regs.old memory.old.space) effect).1 }
+/// Does what an instruction of `len` bytes does, or nothing where that faults.
+fn apply(effect: Effect, len: u64, regs: &mut Regs, memory: &mut Memory) -> Step
+    ensures outcome { result ≡ (applied (state_of regs.old memory.old.space) len effect).0 }
+    ensures state { state_of regs.new memory.new.space
+        ≡ (applied (state_of regs.old memory.old.space) len effect).1 }
+    ensures registers { result ≢ Step.Went → regs.new ≡ regs.old }
+    ensures memory { result ≢ Step.Went → memory.new ≡ memory.old }
 {
     match effect {
-        Effect::Set(rd, value) => go_on_with(regs, rd, value),
-        Effect::Jump(rd, target) => jump(regs, rd, target),
-        Effect::Branch(taken, target) => branch(regs, taken, target),
+        Effect::Set(rd, value) => go_on_with(regs, len, rd, value),
+        Effect::Jump(rd, target) => jump(regs, len, rd, target),
+        Effect::Branch(taken, target) => branch(regs, len, taken, target),
         Effect::Load(rd, addr, width, signed) => match load(memory, addr, width, signed) {
-            Ok(value) => go_on_with(regs, rd, value),
+            Ok(value) => go_on_with(regs, len, rd, value),
             Err(fault) => Step::Fault(fault),
         },
         Effect::Store(addr, width, value) => match store(memory, addr, width, value) {
-            Ok(()) => go_on(regs),
+            Ok(()) => go_on(regs, len),
             Err(fault) => Step::Fault(fault),
         },
-        Effect::Nothing => go_on(regs),
+        Effect::Nothing => go_on(regs, len),
         Effect::Trap => no_instruction(regs.pc),
     }
 }
@@ -72,49 +78,59 @@ fn no_instruction(addr: u64) -> Step
     })
 }
 
-/// Goes on at the next instruction.
+/// Goes on at the next instruction, after one of `len` bytes.
 #[inline]
-fn go_on(regs: &mut Regs) -> Step
+fn go_on(regs: &mut Regs, len: u64) -> Step
     ensures outcome { result ≡ Step.Went }
-    ensures registers { regs.new ≡ record regs.old { pc = next_pc regs.old.pc } }
+    ensures registers { regs.new ≡ record regs.old { pc = next_pc regs.old.pc len } }
 {
-    regs.pc = regs.pc.wrapping_add(4);
+    regs.pc = regs.pc.wrapping_add(len);
     Step::Went
 }
 
-/// Writes a register, and goes on at the next instruction.
+/// Writes a register, and goes on at the next instruction, after one of `len` bytes.
 #[inline]
-fn go_on_with(regs: &mut Regs, rd: u8, value: u64) -> Step
+fn go_on_with(regs: &mut Regs, len: u64, rd: u8, value: u64) -> Step
     ensures outcome { result ≡ Step.Went }
-    ensures registers { regs.new ≡ record regs.old { pc = next_pc regs.old.pc; x = with_register regs.old.x rd value } }
+    ensures registers { regs.new ≡ record regs.old {
+      pc = next_pc regs.old.pc len;
+      x = with_register regs.old.x rd value;
+    } }
 {
     regs.set(rd, value);
-    go_on(regs)
+    go_on(regs, len)
 }
 
-/// Goes to a target that is a multiple of 4, and links.
+/// Goes to a target that is a multiple of 4, and links: writes the address of the next instruction, after one of `len` bytes.
 #[inline]
-fn jump(regs: &mut Regs, rd: u8, target: u64) -> Step
+fn jump(regs: &mut Regs, len: u64, rd: u8, target: u64) -> Step
     ensures outcome { result ≡ (if target % 4 == 0 then Step.Went else no_instruction target) }
-    ensures registers { regs.new ≡ (if target % 4 == 0 then record regs.old { pc = target; x = with_register regs.old.x rd (next_pc regs.old.pc) } else regs.old) }
+    ensures registers { regs.new ≡ (if target % 4 == 0
+        then record regs.old {
+          pc = target;
+          x = with_register regs.old.x rd (next_pc regs.old.pc len);
+        }
+        else regs.old) }
 {
     if target % 4 != 0 {
         return no_instruction(target);
     }
-    regs.set(rd, regs.pc.wrapping_add(4));
+    regs.set(rd, regs.pc.wrapping_add(len));
     regs.pc = target;
     Step::Went
 }
 
 /// Goes to a target that is a multiple of 4 where the branch is taken, else on.
 #[inline]
-fn branch(regs: &mut Regs, taken: bool, target: u64) -> Step
+fn branch(regs: &mut Regs, len: u64, taken: bool, target: u64) -> Step
     ensures outcome { result ≡ (if not taken || target % 4 == 0 then Step.Went else no_instruction target) }
-    ensures registers { regs.new ≡ (if taken then (if target % 4 == 0 then record regs.old { pc = target } else regs.old) else record regs.old { pc = next_pc regs.old.pc }) }
+    ensures registers { regs.new ≡ (if taken
+        then (if target % 4 == 0 then record regs.old { pc = target } else regs.old)
+        else record regs.old { pc = next_pc regs.old.pc len }) }
 {
     if taken {
-        jump(regs, 0, target)
+        jump(regs, len, 0, target)
     } else {
-        go_on(regs)
+        go_on(regs, len)
     }
 }
