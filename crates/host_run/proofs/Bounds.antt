@@ -1,5 +1,6 @@
 -- What the line grammar finds keeps its bounds.
-use Rattle.std.proofs.Common.{◌≡◌, ℕ, ◌+◌, ◌-◌, ◌^◌, ◌≤◌, Bool, true, cond, eqb, List, [], ◌∷◌, ◌++◌, length, suc, Option, Some, None, sym, ◌∙◌, ap, subst, refl, arith, lit≤, codes}
+use Rattle.std.proofs.Common.{◌≡◌, ℕ, ◌+◌, ◌-◌, ◌^◌, ◌≤◌, Bool, true, cond, eqb, List, [], ◌∷◌, ◌++◌, length, drop, suc, Option, Some, None, sym, ◌∙◌, ap, subst, refl, arith, lit≤, codes}
+use Rattle.std.proofs.lemmas.List.{drop_min}
 use Rattle.std.proofs.lemmas.Bool.{cond_both, false≢true, and_parts, ltb-true, leb-true, eqb-false, not-true}
 use Rattle.std.specs.Prelude.{IfSome, option_map, option_and_then, unwrap_or, min, is_none, bytes_eq, nat_lt, nat_le, ◌&&◌}
 use Rattle.std.specs.List.{position_or_len, before_first, after_first, list_all}
@@ -53,11 +54,11 @@ number_within base most greatest digits =
     let small = nat_le (digits_value base digits) greatest in
     cond_when (well && small) (Some (digits_value base digits)) (λ n. n ≤ greatest) (λ e. leb-true (digits_value base digits) greatest (and_parts well small e).1)
 
-drill_within : (words : List (List ℕ)) → IfSome (drill words) KeepsBounds
-drill_within [] = tt
-drill_within (digits ∷ []) =
-    map_keeps Drill (number 10 20 (2 ^ 32 - 1) digits) (λ n. n ≤ 2 ^ 32 - 1) KeepsBounds (number_within 10 20 (2 ^ 32 - 1) digits) (λ n small. omega arith)
-drill_within (digits ∷ other ∷ words) = tt
+drill_within : (line words : List (List ℕ)) → IfSome (drill words) (KeepsBounds line)
+drill_within line [] = tt
+drill_within line (digits ∷ []) =
+    map_keeps Drill (number 10 20 (2 ^ 32 - 1) digits) (λ n. n ≤ 2 ^ 32 - 1) (KeepsBounds line) (number_within 10 20 (2 ^ 32 - 1) digits) (λ n small. omega arith)
+drill_within line (digits ∷ other ∷ words) = tt
 
 values_as_many : (words : List (List ℕ)) → IfSome (values words) (λ numbers. length numbers ≡ length words)
 values_as_many [] = refl
@@ -65,15 +66,15 @@ values_as_many (word ∷ words) =
     then_keeps (λ (value : ℕ). option_map (λ (others : List ℕ). value ∷ others) (values words)) (word_value word) (λ _. Unit {0}) (λ (numbers : List ℕ). length numbers ≡ suc (length words)) (anything (word_value word))
     (λ value _. map_keeps (λ (others : List ℕ). value ∷ others) (values words) (λ others. length others ≡ length words) (λ (numbers : List ℕ). length numbers ≡ suc (length words)) (values_as_many words) (λ others same. ap suc same))
 
-native_within : (words : List (List ℕ)) → IfSome (native words) KeepsBounds
-native_within [] = tt
-native_within (lib ∷ []) = tt
-native_within (lib ∷ symbol ∷ arguments) =
-    cond_when (names_file lib && nat_lt 0 (length symbol) && nat_le (length arguments) 8) (option_map (λ (numbers : List ℕ). Native lib symbol numbers) (values arguments)) KeepsBounds (λ e.
+native_within : (line words : List (List ℕ)) → IfSome (native words) (KeepsBounds line)
+native_within line [] = tt
+native_within line (lib ∷ []) = tt
+native_within line (lib ∷ symbol ∷ arguments) =
+    cond_when (names_file lib && nat_lt 0 (length symbol) && nat_le (length arguments) 8) (option_map (λ (numbers : List ℕ). Native lib symbol numbers) (values arguments)) (KeepsBounds line) (λ e.
     let p = and_parts (names_file lib && nat_lt 0 (length symbol)) (nat_le (length arguments) 8) e in
     let q = and_parts (names_file lib) (nat_lt 0 (length symbol)) p.0 in
     let few = leb-true (length arguments) 8 p.1 in
-    map_keeps (λ (numbers : List ℕ). Native lib symbol numbers) (values arguments) (λ (numbers : List ℕ). length numbers ≡ length arguments) KeepsBounds (values_as_many arguments)
+    map_keeps (λ (numbers : List ℕ). Native lib symbol numbers) (values arguments) (λ (numbers : List ℕ). length numbers ≡ length arguments) (KeepsBounds line) (values_as_many arguments)
     (λ numbers same. (is_file_name lib q.0, ltb-true 0 (length symbol) q.1, omega (arith, same, few))))
 
 -- ---- `run`
@@ -165,45 +166,53 @@ fuel_or_default : (fuel : Option ℕ) → IfSome fuel (λ n. n ≤ 100000000) �
 fuel_or_default None h = lit≤ tt
 fuel_or_default (Some n) h = h
 
-whole_within : (before : ℕ) (said : Options) → IsWithin said → IfSome (said_whole before said) KeepsBounds
+whole_within : (line : List (List ℕ)) (before : ℕ) (said : Options) → fits_program (drop before line) ≡ true → IsWithin said → IfSome (said_whole before said) (KeepsBounds line)
 unfolding said_whole
-whole_within before said h =
-    elim said.awaits as (λ a. IfSome (elim a as (λ _. Option Command) [ Nothing ↦ option_map (λ (file : List ℕ). Run (record { file = file; libs = said.libs; fuel = unwrap_or said.fuel 10000000; report = said.report; log = said.log; before = before })) said.file | Lib ↦ None | Fuel ↦ None ]) KeepsBounds) [
-      | Nothing ↦ map_keeps (λ (file : List ℕ). Run (record { file = file; libs = said.libs; fuel = unwrap_or said.fuel 10000000; report = said.report; log = said.log; before = before })) said.file IsFileName KeepsBounds h.0 (λ file named. (named, fuel_or_default said.fuel h.1))
+whole_within line before said fits h =
+    elim said.awaits as (λ a. IfSome (elim a as (λ _. Option Command) [ Nothing ↦ option_map (λ (file : List ℕ). Run (record { file = file; libs = said.libs; fuel = unwrap_or said.fuel 10000000; report = said.report; log = said.log; before = before })) said.file | Lib ↦ None | Fuel ↦ None ]) (KeepsBounds line)) [
+      | Nothing ↦ map_keeps (λ (file : List ℕ). Run (record { file = file; libs = said.libs; fuel = unwrap_or said.fuel 10000000; report = said.report; log = said.log; before = before })) said.file IsFileName (KeepsBounds line) h.0 (λ file named. (named, fuel_or_default said.fuel h.1, fits))
       | Lib ↦ tt
       | Fuel ↦ tt
     ]
 
-run_within : (words : List (List ℕ)) → IfSome (run words) KeepsBounds
+-- the words after the first `--`, by how many of the line come before them
+program_of : (name : List ℕ) (words : List (List ℕ)) → drop (1 + min (position_or_len is_end words + 1) (length words)) (name ∷ words) ≡ after_first is_end words
+program_of name words =
+    let n = min (position_or_len is_end words + 1) (length words) in
+    let one : 1 + n ≡ suc n = omega arith in
+    ap (λ k. drop k (name ∷ words)) one ∙ drop_min (position_or_len is_end words + 1) words
+
+run_within : (name : List ℕ) (words : List (List ℕ)) → IfSome (run words) (KeepsBounds (name ∷ words))
 unfolding run
-run_within words =
+run_within name words =
     let own = before_first is_end words in
     let before = 1 + min (position_or_len is_end words + 1) (length words) in
-    cond_when (fits_program (after_first is_end words)) (option_and_then (said_whole before) (said_by no_words own)) KeepsBounds (λ _. then_keeps (said_whole before) (said_by no_words own) IsWithin KeepsBounds (words_within no_words own (tt, tt)) (λ said h. whole_within before said h))
+    cond_when (fits_program (after_first is_end words)) (option_and_then (said_whole before) (said_by no_words own)) (KeepsBounds (name ∷ words)) (λ fits. then_keeps (said_whole before) (said_by no_words own) IsWithin (KeepsBounds (name ∷ words)) (words_within no_words own (tt, tt)) (λ said h. whole_within (name ∷ words) before said (ap fits_program (program_of name words) ∙ fits) h))
 
 -- ---- the line
 
 pub commands_keep_bounds : CommandsKeepBounds
 commands_keep_bounds [] = tt
 commands_keep_bounds (name ∷ rest) =
+    let bounds : Command → Type 0 = KeepsBounds (name ∷ rest) in
     let from_drill = cond (bytes_eq name (codes "drill")) (drill rest) None in
     let from_run = cond (bytes_eq name (codes "run")) (run rest) from_drill in
     let from_native = cond (bytes_eq name (codes "native")) (native rest) from_run in
     let from_stubs = cond (bytes_eq name (codes "stubs")) (option_map Stubs (lone_file rest)) from_native in
-    let at_drill : IfSome from_drill KeepsBounds =
-    cond_when (bytes_eq name (codes "drill")) (drill rest) KeepsBounds (λ _. drill_within rest)
+    let at_drill : IfSome from_drill bounds =
+    cond_when (bytes_eq name (codes "drill")) (drill rest) bounds (λ _. drill_within (name ∷ rest) rest)
     in
-    let at_run : IfSome from_run KeepsBounds =
-    cond_either (bytes_eq name (codes "run")) (run rest) from_drill KeepsBounds (run_within rest) at_drill
+    let at_run : IfSome from_run bounds =
+    cond_either (bytes_eq name (codes "run")) (run rest) from_drill bounds (run_within name rest) at_drill
     in
-    let at_native : IfSome from_native KeepsBounds =
-    cond_either (bytes_eq name (codes "native")) (native rest) from_run KeepsBounds (native_within rest) at_run
+    let at_native : IfSome from_native bounds =
+    cond_either (bytes_eq name (codes "native")) (native rest) from_run bounds (native_within (name ∷ rest) rest) at_run
     in
-    let at_stubs : IfSome from_stubs KeepsBounds =
-    cond_either (bytes_eq name (codes "stubs")) (option_map Stubs (lone_file rest)) from_native KeepsBounds (map_keeps Stubs (lone_file rest) IsFileName KeepsBounds (lone_file_named rest) (λ _ h. h)) at_native
+    let at_stubs : IfSome from_stubs bounds =
+    cond_either (bytes_eq name (codes "stubs")) (option_map Stubs (lone_file rest)) from_native bounds (map_keeps Stubs (lone_file rest) IsFileName bounds (lone_file_named rest) (λ _ h. h)) at_native
     in
-    cond_either (bytes_eq name (codes "imports")) (option_map Imports (lone_file rest)) from_stubs KeepsBounds (map_keeps Imports (lone_file rest) IsFileName KeepsBounds (lone_file_named rest) (λ _ h. h)) at_stubs
+    cond_either (bytes_eq name (codes "imports")) (option_map Imports (lone_file rest)) from_stubs bounds (map_keeps Imports (lone_file rest) IsFileName bounds (lone_file_named rest) (λ _ h. h)) at_stubs
 
 -- a command that words ask for keeps its bounds
-pub bounds-kept : (words : List (List ℕ)) (found : Option Command) (c : Command) → found ≡ command words → found ≡ Some c → KeepsBounds c
-bounds-kept words found c e is = let P : Option Command → Type 0 = λ o. IfSome o KeepsBounds in subst P (sym e ∙ is) (commands_keep_bounds words)
+pub bounds-kept : (words : List (List ℕ)) (found : Option Command) (c : Command) → found ≡ command words → found ≡ Some c → KeepsBounds words c
+bounds-kept words found c e is = let P : Option Command → Type 0 = λ o. IfSome o (KeepsBounds words) in subst P (sym e ∙ is) (commands_keep_bounds words)

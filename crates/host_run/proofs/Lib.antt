@@ -7,9 +7,12 @@ pub mod ItemsOfLines
 pub mod Puts
 pub mod Fronts
 pub mod Images
+pub mod Answers
 pub mod Outcomes
 pub mod Contents
+pub mod Finished
 pub mod Digits
 pub mod StartMemory
 pub mod NativeStatuses
+pub mod NativeCalls
 pub mod ReadBack

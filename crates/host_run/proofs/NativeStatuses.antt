@@ -14,11 +14,11 @@ use Rattle.host_bridge.specs.Places.{first_lane}
 use Rattle.host_bridge.specs.NativeCode.{NativeNext, Continues, Returns, Faults, native_next}
 use Rattle.host_bridge.specs.NativeRun.{Call, NativeRun, Next, Goes, Stops, begun, turned, fueled, chosen, step, Steps, ending_of, start, native_run}
 use Rattle.host_run.specs.FileNames.{file_name}
-use Rattle.host_run.specs.Native.{start_space, bound_alone, native_fuel, run_answer, call_answer, bound_answer}
+use Rattle.host_run.specs.Native.{start_space, bound_alone, native_fuel, run_answer, call_answer, bound_answer, native_of}
 use Rattle.host_run.specs.NativeLaws.{native_statuses, NativeHasFiveStatuses}
 
 -- a run of native code gives a number, or ends by one of two
-IsNatives : Result ℕ Ending → Type 0
+unfoldable pub IsNatives : Result ℕ Ending → Type 0
 IsNatives (Ok number) = Unit {0}
 IsNatives (Err (Returned number)) = ⊥
 IsNatives (Err (Exited number)) = ⊥
@@ -46,30 +46,36 @@ chosen_ends run (Some regs) calls = fueled_ends run.fuel (turned run regs (nativ
 chosen_ends run None (call ∷ rest) = fueled_ends run.fuel (Goes (begun run call rest)) tt
 chosen_ends run None [] = tt
 
-run_ends : (inits : List ℕ) (at : ℕ) (words : List ℕ) (fuel : ℕ) (lane : Lane) (memory : AddressSpace) → IsNatives (native_run inits at words fuel lane memory).answer
+pub run_ends : (inits : List ℕ) (at : ℕ) (words : List ℕ) (fuel : ℕ) (lane : Lane) (memory : AddressSpace) → IsNatives (native_run inits at words fuel lane memory).answer
 unfolding native_run step
 run_ends inits at words fuel lane memory = let last : NativeRun = Steps fuel (start inits at words fuel lane memory) in chosen_ends last last.native last.calls
 
-answer_status : (answer : Result ℕ Ending) → IsNatives answer → Contains native_statuses (run_answer answer).status
-unfolding IsNatives
-answer_status (Ok number) h = (0, omega arith, refl)
-answer_status (Err (Returned number)) h = absurd h
-answer_status (Err (Exited number)) h = absurd h
-answer_status (Err (Unhandled type)) h = absurd h
-answer_status (Err Spent) h = (2, omega arith, refl)
-answer_status (Err (Bad token at)) h = absurd h
-answer_status (Err Deep) h = absurd h
-answer_status (Err SinkFailed) h = absurd h
-answer_status (Err (InitFault pc)) h = (3, omega arith, refl)
-answer_status (Err Memory) h = absurd h
+-- What holds of 0, of both endings of native code, of a broken library and of a missing symbol, holds of each answer's status.
+module _ (P : ℕ → Type 0) (given : P 0) (broken : P 205) (spent : P 208) (faulted : P 213) (missing : P 214) where
+  answer_status : (answer : Result ℕ Ending) → IsNatives answer → P (run_answer answer).status
+  unfolding IsNatives
+  answer_status (Ok number) h = given
+  answer_status (Err (Returned number)) h = absurd h
+  answer_status (Err (Exited number)) h = absurd h
+  answer_status (Err (Unhandled type)) h = absurd h
+  answer_status (Err Spent) h = spent
+  answer_status (Err (Bad token at)) h = absurd h
+  answer_status (Err Deep) h = absurd h
+  answer_status (Err SinkFailed) h = absurd h
+  answer_status (Err (InitFault pc)) h = faulted
+  answer_status (Err Memory) h = absurd h
 
-call_status : (symbol numbers : List ℕ) (bound : Bindings × AddressSpace) (found : Option ℕ) → Contains native_statuses (call_answer symbol numbers bound found).status
-call_status symbol numbers bound None = (4, omega arith, refl)
-call_status symbol numbers bound (Some at) = answer_status (native_run bound.0.inits at numbers native_fuel first_lane bound.1).answer (run_ends bound.0.inits at numbers native_fuel first_lane bound.1)
+  call_status : (symbol numbers : List ℕ) (bound : Bindings × AddressSpace) (found : Option ℕ) → P (call_answer symbol numbers bound found).status
+  call_status symbol numbers bound None = missing
+  call_status symbol numbers bound (Some at) = answer_status (native_run bound.0.inits at numbers native_fuel first_lane bound.1).answer (run_ends bound.0.inits at numbers native_fuel first_lane bound.1)
 
-bound_status : (lib symbol numbers : List ℕ) (bound : Result (Bindings × AddressSpace) Broken) → Contains native_statuses (bound_answer lib symbol numbers bound).status
-bound_status lib symbol numbers (Ok bound) = call_status symbol numbers bound (symbol_in bound.0.modules 0 symbol)
-bound_status lib symbol numbers (Err broken) = (1, omega arith, refl)
+  bound_status : (lib symbol numbers : List ℕ) (bound : Result (Bindings × AddressSpace) Broken) → P (bound_answer lib symbol numbers bound).status
+  bound_status lib symbol numbers (Ok bound) = call_status symbol numbers bound (symbol_in bound.0.modules 0 symbol)
+  bound_status lib symbol numbers (Err broken_part) = broken
+
+  pub native-status : (lib symbol numbers bytes : List ℕ) → P (native_of lib symbol numbers bytes).status
+  native-status lib symbol numbers bytes = bound_status lib symbol numbers (bound_alone start_space (file_name lib) bytes)
 
 pub native_has_five_statuses : NativeHasFiveStatuses
-native_has_five_statuses lib symbol numbers bytes = bound_status lib symbol numbers (bound_alone start_space (file_name lib) bytes)
+native_has_five_statuses lib symbol numbers bytes =
+    native-status (Contains native_statuses) (0, omega arith, refl) (1, omega arith, refl) (2, omega arith, refl) (3, omega arith, refl) (4, omega arith, refl) lib symbol numbers bytes

@@ -4,8 +4,8 @@ use Rattle.std.specs.Prelude.{⊤, slice_get}
 use Rattle.std.specs.List.{flat_map}
 use Rattle.std.proofs.lemmas.List.Concat.{flat_map-append}
 use Rattle.bound_base.specs.Outside.{appended, AppendsFront}
-use Rattle.host_run.specs.declared.stop.PutError.{PutError}
-use Rattle.host_run.specs.Outcome.{Puts}
+use Rattle.bound_base.specs.declared.put.PutError.{PutError}
+use Rattle.bound_base.specs.Put.{Puts}
 use Rattle.byte_view.specs.Metadata.{Metadata, table_of, row_of}
 
 pub append-nil : (xs : List ℕ) → xs ++ [] ≡ xs

@@ -1,14 +1,13 @@
--- What plhost answers to words, where it reads, writes and finds memory.
+-- What plhost answers to words and files.
 use Rattle.std.specs.Prelude.{◌≡◌, ℕ, List, Option, Some, None}
 use Rattle.bound_base.specs.Outside.{Files}
 use Rattle.byte_view.specs.Assembly.{assembly}
 use Rattle.host_run.specs.declared.command.Command.{Command}
 use Rattle.host_run.specs.declared.command.Command.TheVariants.{Imports, Stubs, Native, Run, Drill}
 use Rattle.host_run.specs.Grammar.{command}
-use Rattle.host_run.specs.Answer.{Answer, refused, file_answer}
+use Rattle.host_run.specs.Answer.{Answer, usage, file_answer}
 use Rattle.host_run.specs.Imports.{imports_of}
 use Rattle.host_run.specs.Native.{native_of}
-use Rattle.host_run.specs.Texts.{usage_line}
 
 -- `imports` of a file
 abbrev pub imports_answer : List ℕ → Option (List ℕ) → Answer
@@ -18,20 +17,16 @@ imports_answer name = file_answer (λ bytes. imports_of (assembly bytes)) name
 abbrev pub native_answer : List ℕ → List ℕ → List ℕ → Option (List ℕ) → Answer
 native_answer lib symbol numbers = file_answer (native_of lib symbol numbers) lib
 
--- a command that isn't built is answered as words outside the grammar
-abbrev pub answer_to : Option Command → Files → Answer
-answer_to None files = refused 201 usage_line
-answer_to (Some (Imports file)) files = imports_answer file (files file)
-answer_to (Some (Stubs file)) files = refused 201 usage_line
-answer_to (Some (Native lib symbol numbers)) files = native_answer lib symbol numbers (files lib)
-answer_to (Some (Run words)) files = refused 201 usage_line
-answer_to (Some (Drill n)) files = refused 201 usage_line
+-- An answer to a command, to the words that ask for it, and to files. It is a relation, since a command may have several; those
+-- that are built have one. A command that isn't built is answered as words outside the grammar.
+abbrev pub IsAnswer : Option Command → List (List ℕ) → Files → Answer → Type 0
+IsAnswer None words files a = a ≡ usage
+IsAnswer (Some (Imports file)) words files a = a ≡ imports_answer file (files file)
+IsAnswer (Some (Stubs file)) words files a = a ≡ usage
+IsAnswer (Some (Native lib symbol numbers)) words files a = a ≡ native_answer lib symbol numbers (files lib)
+IsAnswer (Some (Run run)) words files a = a ≡ usage
+IsAnswer (Some (Drill number)) words files a = a ≡ usage
 
-abbrev pub answer : List (List ℕ) → Files → Answer
-answer words files = answer_to (command words) files
-
--- a file that a command reads, and before whose reading nothing is refused
-abbrev pub ReadsNext : Option Command → List ℕ → Type 0
-ReadsNext (Some (Imports file)) name = name ≡ file
-ReadsNext (Some (Native lib symbol numbers)) name = name ≡ lib
-ReadsNext _ name = ⊥
+-- an answer to words and files
+abbrev pub Answers : List (List ℕ) → Files → Answer → Type 0
+Answers words files a = IsAnswer (command words) words files a

@@ -23,7 +23,8 @@ names_file (first ∷ rest) = not (first == 45)
 -- the number that one to `most` digits write in a base, where it is at most `greatest`
 unfoldable pub number : ℕ → ℕ → ℕ → List ℕ → Option ℕ
 number base most greatest digits =
-    if nat_lt 0 (length digits) && nat_le (length digits) most && list_all (λ d. is_digit d base) digits && nat_le (digits_value base digits) greatest
+    if nat_lt 0 (length digits) && nat_le (length digits) most
+      && list_all (λ d. is_digit d base) digits && nat_le (digits_value base digits) greatest
     then Some (digits_value base digits) else None
 
 -- what follows `start` in a word that begins with it

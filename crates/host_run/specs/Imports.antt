@@ -5,8 +5,7 @@ use Rattle.bound_base.specs.Names.{escaped}
 use Rattle.byte_view.specs.Reading.{Broken}
 use Rattle.byte_view.specs.Heaps.{text_at}
 use Rattle.byte_view.specs.Metadata.{Metadata, table_of, row_of}
-use Rattle.host_run.specs.Answer.{Answer, done, refused}
-use Rattle.host_run.specs.Texts.{bad_image_line}
+use Rattle.host_run.specs.Answer.{Answer, done, bad_image}
 
 abbrev pub module_ref : ℕ
 module_ref = 0x1A
@@ -38,4 +37,4 @@ imports_text m = flat_map (import_line m) (table_of m impl_map)
 -- the imports of an assembly, or its first broken part
 abbrev pub imports_of : Result Metadata Broken → Answer
 imports_of (Ok m) = done (imports_text m)
-imports_of (Err broken) = refused 204 (bad_image_line broken.0 broken.1)
+imports_of (Err broken) = bad_image broken.0 broken.1

@@ -1,4 +1,6 @@
 pub mod Answer
+pub mod AnswerLaws
+pub mod Called
 pub mod Commands
 pub mod FileNames
 pub mod Files
@@ -7,7 +9,7 @@ pub mod GrammarLaws
 pub mod Imports
 pub mod Native
 pub mod NativeLaws
-pub mod Outcome
+pub mod Readings
 pub mod RunItems
-pub mod Stops
+pub mod Settled
 pub mod Texts

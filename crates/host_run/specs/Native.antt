@@ -1,8 +1,7 @@
--- What `native` answers: a library is bound alone, behind the blocks that stand first in memory, and one of its symbols is
+-- What `native` answers: a library is bound alone, after the blocks that stand first in memory, and one of its symbols is
 -- called.
 use Rattle.std.specs.Prelude.{ℕ, ◌+◌, List, [], ◌∷◌, replicate, true, false, Option, Some, None, Result, Ok, Err}
 use Rattle.bound_base.specs.declared.ending.Ending.{Ending}
-use Rattle.bound_base.specs.declared.ending.Ending.TheVariants.{Spent, InitFault}
 use Rattle.bound_base.specs.declared.limits.Rights.{Rights}
 use Rattle.bound_base.specs.Limits.{standard}
 use Rattle.byte_view.specs.Reading.{Broken, ◌>>=◌}
@@ -16,9 +15,9 @@ use Rattle.elf_binder.specs.Modules.{symbol_in}
 use Rattle.elf_binder.specs.Binding.{Bindings, sources_from, bindings}
 use Rattle.host_bridge.specs.Places.{first_lane}
 use Rattle.host_bridge.specs.NativeRun.{native_run}
-use Rattle.host_run.specs.Answer.{Answer, done, refused}
+use Rattle.host_run.specs.Answer.{Answer, done, bad_library, no_symbol, ended}
 use Rattle.host_run.specs.FileNames.{file_name}
-use Rattle.host_run.specs.Texts.{bad_library_line, no_symbol_line, fuel_line, native_fault_line, number_line, memory_line}
+use Rattle.host_run.specs.Texts.{number_line}
 
 -- ---- memory before libraries are bound
 
@@ -60,22 +59,20 @@ bound_alone space name bytes =
 abbrev pub native_fuel : ℕ
 native_fuel = 10000000
 
--- what native code came to; no other ending comes of it
+-- what native code came to
 abbrev pub run_answer : Result ℕ Ending → Answer
 run_answer (Ok number) = done (number_line number)
-run_answer (Err Spent) = refused 208 fuel_line
-run_answer (Err (InitFault pc)) = refused 213 (native_fault_line pc)
-run_answer (Err _) = refused 211 memory_line
+run_answer (Err ending) = ended ending
 
 -- the address of the symbol is called with the numbers
 abbrev pub call_answer : List ℕ → List ℕ → (Bindings × AddressSpace) → Option ℕ → Answer
-call_answer symbol numbers bound None = refused 214 (no_symbol_line symbol)
+call_answer symbol numbers bound None = no_symbol symbol
 call_answer symbol numbers bound (Some at) = run_answer (native_run bound.0.inits at numbers native_fuel first_lane bound.1).answer
 
 -- the symbol is looked for in the only library, number 0; a broken one is named as the line has it
 abbrev pub bound_answer : List ℕ → List ℕ → List ℕ → Result (Bindings × AddressSpace) Broken → Answer
 bound_answer lib symbol numbers (Ok bound) = call_answer symbol numbers bound (symbol_in bound.0.modules 0 symbol)
-bound_answer lib symbol numbers (Err broken) = refused 205 (bad_library_line lib broken.0 broken.1)
+bound_answer lib symbol numbers (Err broken) = bad_library lib broken.0 broken.1
 
 -- `native` of a library by its file's bytes, which is bound under the name that stands after the last `/`
 abbrev pub native_of : List ℕ → List ℕ → List ℕ → List ℕ → Answer

@@ -1,7 +1,8 @@
 //! Reading a whole file from a store.
 
-ghost use Rattle.std.specs.Prelude.{◌≡◌, ◌≤◌, length, vec_len, IfOk, IsErrOf};
+ghost use Rattle.std.specs.Prelude.{◌≡◌, ◌≤◌, ◌++◌, length, vec_len, IfOk, OnOk, IsErrOf};
 ghost use Rattle.bound_base.specs.Outside.{contents_under, Rose};
+ghost use Rattle.bound_base.specs.Names.{IsBytes};
 ghost use Rattle.host_run.specs.Files.{IsWhole, CountsFile, file_limit};
 ghost use Rattle.host_run.specs.declared.files.FileError.TheVariants.{Memory};
 
@@ -48,13 +49,14 @@ impl From<StoreFault> for FileError {
     }
 }
 
-/// All bytes of a file, read in pieces. Of a file that is too large no piece is read behind the one that shows it.
+/// All bytes of a file, read in pieces. Of a file that is too large no piece is read after the one that shows it.
 pub fn read_file<S: Store>(alloc: Global, name: &str, store: &mut S) -> Result<Bytes, FileError>
     ensures whole { IsWhole (contents_under (S.held store.old) name.now) result }
     ensures failed { IsErrOf result FileError.Failed → Rose (S.faults store.old) (S.faults store.new) }
     ensures uncounted { CountsFile result (S.faults store.old) (S.faults store.new) }
     ensures count { S.faults store.old ≤ S.faults store.new }
     ensures small { IfOk result (λ bytes. length bytes ≤ file_limit) }
+    ensures of_bytes { IfOk result IsBytes }
     ensures kept { S.held store.new ≡ S.held store.old }
 {
     let mut piece = buffer(alloc, PIECE)?;
@@ -64,11 +66,19 @@ pub fn read_file<S: Store>(alloc: Global, name: &str, store: &mut S) -> Result<B
         if n == 0 {
             return Ok(file);
         }
-        file.extend_from_slice(&piece[..n])?;
+        append(&mut file, &piece[..n])?;
         if file.len() > FILE_LIMIT {
             return Err(FileError::TooLarge);
         }
     }
+}
+
+/// Appends what was read.
+fn append(file: &mut Bytes, piece: &[u8]) -> Result<(), AllocError>
+    ensures ok { OnOk result (file.new ≡ file.old ++ piece.now) }
+    ensures of_bytes { IsBytes piece.now }
+{
+    file.extend_from_slice(piece)
 }
 
 fn buffer(alloc: Global, len: usize) -> Result<Vec<u8>, AllocError>

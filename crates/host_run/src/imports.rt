@@ -5,11 +5,13 @@ ghost use Rattle.std.specs.Option.{option_copied};
 ghost use Rattle.bound_base.specs.Outside.{Rose};
 ghost use Rattle.byte_view.specs.Assembly.{assembly};
 ghost use Rattle.host_run.specs.Imports.{name_at as name_in, module_name as module_of, import_line, imports_text, imports_of};
-ghost use Rattle.host_run.specs.Outcome.{Puts, CountsPut, Meets, ReadsNothing, CountsSink};
+ghost use Rattle.bound_base.specs.Put.{Puts, CountsPut};
+ghost use Rattle.host_run.specs.Called.{of_sink, Finishes};
 ghost use Rattle.bound_base.specs.Names.{escaped};
 
-use crate::stop::{PutError, Stop};
-use bound_base::{Sink, escape};
+use crate::refusals::broken_image;
+use crate::settled::{Halt, Settled};
+use bound_base::{PutError, Sink, escape};
 use meta_tables::{Meta, read_meta};
 use pe_reader::read_pe;
 use std::alloc::Global;
@@ -18,17 +20,25 @@ const MODULE_REF: u8 = 0x1A;
 
 const IMPL_MAP: u8 = 0x1C;
 
-/// Puts the imports of an assembly, or says which of its parts is broken.
-pub fn put_imports_of<O: Sink>(alloc: Global, bytes: &[u8], out: &mut O) -> Result<(), Stop>
-    ensures meets { Meets (imports_of (assembly bytes.now)) result (O.contents out.old) (O.contents out.new) }
-    ensures no_read { ReadsNothing result }
-    ensures counted { CountsSink result (O.faults out.old) (O.faults out.new) }
-    ensures count { O.faults out.old ≤ O.faults out.new }
+/// Puts the imports of an assembly, or settles the call by its first broken part.
+pub fn put_imports_of<O: Sink>(
+    alloc: Global,
+    bytes: &[u8],
+    out: &mut O,
+) -> Result<Settled, Halt>
+    ensures { Finishes (imports_of (assembly bytes.now)) result
+        (of_sink (O.contents out.old) (O.contents out.new) (O.faults out.old) (O.faults out.new)) }
 {
-    let pe = read_pe(alloc, bytes)?;
-    let meta = read_meta(alloc, bytes, pe.meta_at, pe.meta_size)?;
+    let pe = match read_pe(alloc, bytes) {
+        Ok(pe) => pe,
+        Err(error) => return broken_image(alloc, error),
+    };
+    let meta = match read_meta(alloc, bytes, pe.meta_at, pe.meta_size) {
+        Ok(meta) => meta,
+        Err(error) => return broken_image(alloc, error),
+    };
     put_imports(alloc, &meta, out)?;
-    Ok(())
+    Ok(Settled::done(alloc))
 }
 
 /// Puts a line for each row of ImplMap, in order.

@@ -1,11 +1,13 @@
-//! Laws of the line grammar and of `native`: each function's contract is one.
+//! Laws of the line grammar, of answers and of `native`: each function's contract is one.
 
 ghost use Rattle.host_run.specs.GrammarLaws.{CommandsKeepBounds, ProgramWordsAreFree};
+ghost use Rattle.host_run.specs.AnswerLaws.{AnswersAreNoFailures, OtherAnswersAreOne, ReadingEndsAtARefusal};
 ghost use Rattle.host_run.specs.RunItems.{RunLinesSayTheirItems, RunLinesAreItems};
 ghost use Rattle.host_run.specs.NativeLaws.{NativeHasFiveStatuses, PrintedNumbersReadBack};
 
 /// Whatever the words of a line are: the FILE or LIB of a command that they ask for isn't empty and doesn't begin with
-/// `-`, the SYMBOL isn't empty, the numbers are at most eight, the fuel is at most 100,000,000, a drill is below 2^32.
+/// `-`, the SYMBOL isn't empty, the numbers are at most eight, the fuel is at most 100,000,000, the words of a program are at
+/// most 65,536 and of at most 16,777,216 bytes together, a drill is below 2^32.
 pub fn commands_keep_bounds()
     ensures { CommandsKeepBounds }
 {}
@@ -26,6 +28,21 @@ pub fn run_lines_say_their_items()
 /// Each line of `run` that asks for a command is one of such items, with or without `--` and the program's words.
 pub fn run_lines_are_items()
     ensures { RunLinesAreItems }
+{}
+
+/// No answer to words and files has the status of a failed read, a failed put or want of memory.
+pub fn answers_are_no_failures()
+    ensures { AnswersAreNoFailures }
+{}
+
+/// Words that ask for another command than `drill` have one answer to files.
+pub fn other_answers_are_one()
+    ensures { OtherAnswersAreOne }
+{}
+
+/// The files that a call reads end with the first that refuses it.
+pub fn reading_ends_at_a_refusal()
+    ensures { ReadingEndsAtARefusal }
 {}
 
 /// Whatever the bytes of a library are, the definition answers them with a number and 0, or with 205, 208, 213 or 214. Beside that

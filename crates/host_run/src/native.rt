@@ -1,24 +1,26 @@
 //! The command `native`: a symbol of a library is called with numbers, and what it gives is printed.
 
-ghost use Rattle.std.specs.Prelude.{◌≡◌, ◌≤◌, length, Some, IfOk, OnOk, IsSome};
-ghost use Rattle.bound_base.specs.Outside.{Rose};
+ghost use Rattle.std.specs.Prelude.{◌≡◌, ◌≤◌, [], length, Some, IfOk, OnOk, IsSome};
 ghost use Rattle.native_memory.specs.Placement.{placed};
 ghost use Rattle.elf_reader.specs.Refusals.{Reads};
 ghost use Rattle.host_bridge.specs.Places.{first_lane};
 ghost use Rattle.host_bridge.specs.NativeRun.{native_run};
-ghost use Rattle.host_run.specs.Commands.{native_answer};
+ghost use Rattle.host_run.specs.Commands.{IsAnswer};
+ghost use Rattle.host_run.specs.Answer.{done};
 ghost use Rattle.host_run.specs.Native.{data_rights, start_space, bound_alone, native_fuel, run_answer, native_of};
-ghost use Rattle.host_run.specs.Outcome.{Puts, CountsPut, Meets, IsResult, IfUnreadable, ReadsNothing, CountsSink, CountsStore, ForFilesOf};
+ghost use Rattle.bound_base.specs.Put.{Puts, CountsPut};
+ghost use Rattle.host_run.specs.Readings.{readings, names_of};
+ghost use Rattle.host_run.specs.Called.{of_store, of_sink, Finishes, Obeys};
 ghost use Rattle.host_run.specs.Texts.{number_line as line_of};
 ghost use Rattle.host_run.specs.declared.command.Command.TheVariants.{Native};
 
 use crate::command::{Word, Words8};
 use crate::file_names::file_name;
 use crate::files::read_file;
-use crate::refusal::Refusal;
-use crate::stop::{PutError, Stop, file_stop, library_stop, run_stop};
+use crate::refusals::{broken_library, ended, no_symbol, unread};
+use crate::settled::{Halt, Settled};
 use crate::texts::{copy_of, number_line};
-use bound_base::{Bytes, NoMemory, Rights, Sink, Store, standard_limits};
+use bound_base::{Bytes, NoMemory, PutError, Rights, Sink, Store, standard_limits};
 use elf_binder::{BindBad, Bound, bind};
 use elf_reader::{ElfBad, read_elf};
 use host_bridge::run_symbol;
@@ -37,42 +39,71 @@ pub fn native<S: Store, O: Sink>(
     numbers: &Words8,
     store: &mut S,
     out: &mut O,
-) -> Result<(), Stop>
+) -> Result<Settled, Halt>
     requires { length numbers.now ≤ 8 }
-    ensures meets { ForFilesOf (S.held store.old) (λ files.
-        Meets (native_answer lib symbol numbers.now (files lib)) result (O.contents out.old) (O.contents out.new)) }
-    ensures unreadable { IfUnreadable (Some (Native lib symbol numbers.now)) result
-        (S.faults store.old) (S.faults store.new) (O.contents out.old) (O.contents out.new) }
-    ensures store_counted { CountsStore result (S.faults store.old) (S.faults store.new) }
-    ensures sink_counted { CountsSink result (O.faults out.old) (O.faults out.new) }
-    ensures store_count { S.faults store.old ≤ S.faults store.new }
-    ensures out_count { O.faults out.old ≤ O.faults out.new }
-    ensures kept { S.held store.new ≡ S.held store.old }
+    ensures { Obeys (IsAnswer (Some (Native lib symbol numbers.now)) [])
+        (names_of (readings (Some (Native lib symbol numbers.now)) [])) result
+        (of_store (S.held store.old) (S.held store.new) (S.faults store.old) (S.faults store.new))
+        (of_sink (O.contents out.old) (O.contents out.new) (O.faults out.old) (O.faults out.new)) }
 {
     match read_file(alloc, lib.as_str(), store) {
-        Ok(bytes) => put_result_of(alloc, lib, symbol, numbers.as_slice(), &bytes, out),
-        Err(error) => Err(file_stop(lib, error)),
+        Ok(bytes) => call_in(alloc, &lib, &symbol, numbers.as_slice(), &bytes, out),
+        Err(error) => unread(alloc, lib, error),
     }
 }
 
-/// Puts what a symbol of a library gives, by the bytes of the library's file.
-fn put_result_of<O: Sink>(
+/// Calls a symbol of a library with the numbers, after the library's initializers, and puts what it gives. `bytes` are those
+/// of the library's file.
+fn call_in<O: Sink>(
     alloc: Global,
-    lib: Word,
-    symbol: Word,
+    lib: &Word,
+    symbol: &Word,
     numbers: &[u64],
     bytes: &Bytes,
     out: &mut O,
-) -> Result<(), Stop>
+) -> Result<Settled, Halt>
     requires { length numbers.now ≤ 8 }
-    ensures meets { Meets (native_of lib symbol numbers.now bytes.now) result (O.contents out.old) (O.contents out.new) }
-    ensures no_read { ReadsNothing result }
-    ensures counted { CountsSink result (O.faults out.old) (O.faults out.new) }
-    ensures count { O.faults out.old ≤ O.faults out.new }
+    ensures { Finishes (native_of lib.now symbol.now numbers.now bytes.now) result
+        (of_sink (O.contents out.old) (O.contents out.new) (O.faults out.old) (O.faults out.new)) }
 {
-    let number = result_of(alloc, lib, symbol, numbers, bytes)?;
+    let name = copy_of(alloc, file_name(lib.as_bytes()))?;
+    let mut memory = start_memory(alloc)?;
+    match bind_alone(alloc, &name, bytes, &mut memory) {
+        Ok(bound) => match bound.symbol(0, symbol.as_bytes()) {
+            Some(at) => call(alloc, &bound, &mut memory, at, numbers, out),
+            None => no_symbol(alloc, symbol),
+        },
+        Err(error) => broken_library(alloc, lib, error),
+    }
+}
+
+/// Calls native code at an address, after the initializers, and puts what it gives.
+fn call<O: Sink>(
+    alloc: Global,
+    bound: &Bound,
+    memory: &mut Memory,
+    at: u64,
+    numbers: &[u64],
+    out: &mut O,
+) -> Result<Settled, Halt>
+    requires { length numbers.now ≤ 8 }
+    ensures { Finishes
+        (run_answer (native_run bound.now.inits at numbers.now native_fuel first_lane memory.old).answer) result
+        (of_sink (O.contents out.old) (O.contents out.new) (O.faults out.old) (O.faults out.new)) }
+{
+    match run_symbol(alloc, bound, memory, at, numbers, FUEL) {
+        Ok(number) => put_result(alloc, number, out),
+        Err(ending) => ended(alloc, ending),
+    }
+}
+
+/// Puts a line with a number, which is all of the answer.
+fn put_result<O: Sink>(alloc: Global, number: u64, out: &mut O) -> Result<Settled, Halt>
+    ensures { Finishes (done (line_of number)) result
+        (of_sink (O.contents out.old) (O.contents out.new) (O.faults out.old) (O.faults out.new)) }
+{
     put_number(alloc, number, out)?;
-    Ok(())
+    Ok(Settled::done(alloc))
 }
 
 /// Puts a line with a number.
@@ -84,45 +115,6 @@ fn put_number<O: Sink>(alloc: Global, number: u64, out: &mut O) -> Result<(), Pu
     let line = number_line(alloc, number)?;
     out.put(line.as_slice())?;
     Ok(())
-}
-
-/// What a symbol of a library gives, called with the numbers, behind the initializers of the library.
-fn result_of(
-    alloc: Global,
-    lib: Word,
-    symbol: Word,
-    numbers: &[u64],
-    bytes: &Bytes,
-) -> Result<u64, Stop>
-    requires { length numbers.now ≤ 8 }
-    ensures { IsResult (native_of lib symbol numbers.now bytes.now) result }
-{
-    let name = copy_of(alloc, file_name(lib.as_bytes()))?;
-    let mut memory = start_memory(alloc)?;
-    match bind_alone(alloc, &name, bytes, &mut memory) {
-        Ok(bound) => match bound.symbol(0, symbol.as_bytes()) {
-            Some(at) => call(alloc, &bound, &mut memory, at, numbers),
-            None => Err(Stop::Refused(Refusal::NoSymbol(symbol))),
-        },
-        Err(error) => Err(library_stop(lib, error)),
-    }
-}
-
-/// What native code at an address gives, behind the initializers.
-fn call(
-    alloc: Global,
-    bound: &Bound,
-    memory: &mut Memory,
-    at: u64,
-    numbers: &[u64],
-) -> Result<u64, Stop>
-    requires { length numbers.now ≤ 8 }
-    ensures { IsResult (run_answer (native_run bound.now.inits at numbers.now native_fuel first_lane memory.old).answer) result }
-{
-    match run_symbol(alloc, bound, memory, at, numbers, FUEL) {
-        Ok(number) => Ok(number),
-        Err(ending) => Err(run_stop(ending)),
-    }
 }
 
 /// A library that is bound under a name, without others; or its first broken part.

@@ -1,20 +1,20 @@
 //! The top call.
 
-ghost use Rattle.std.specs.Prelude.{◌≡◌, ◌≢◌, ◌⊎◌, ◌≤◌, Some};
-ghost use Rattle.bound_base.specs.Outside.{appended, AppendsFront, Rose};
+ghost use Rattle.std.specs.Prelude.{[], Some};
 ghost use Rattle.host_run.specs.Grammar.{command, texts};
-ghost use Rattle.host_run.specs.Commands.{answer, answer_to, imports_answer};
 ghost use Rattle.host_run.specs.GrammarLaws.{KeepsBounds};
-ghost use Rattle.host_run.specs.Outcome.{Meets, IfUnreadable, CountsSink, CountsStore, ForFilesOf, IsSettled, GivesAnswer, CouldNotRead, GotFrontOfLine};
-ghost use Rattle.host_run.specs.Texts.{memory_line};
+ghost use Rattle.host_run.specs.Commands.{IsAnswer, Answers};
+ghost use Rattle.host_run.specs.Readings.{readings, names_of, names_read};
+ghost use Rattle.host_run.specs.Called.{of_store, of_sink, Obeys, Called, Counts};
 ghost use Rattle.host_run.specs.declared.command.Command.TheVariants.{Imports};
 
+use crate::closing::close;
 use crate::command::{Command, Word};
 use crate::files::read_file;
 use crate::imports::put_imports_of;
 use crate::native::native;
-use crate::refusal::Refusal;
-use crate::stop::{Stop, file_stop, put_line};
+use crate::refusals::{unread, usage};
+use crate::settled::{Halt, Settled};
 use crate::words::read_words;
 use bound_base::{Sink, Store};
 use std::alloc::Global;
@@ -32,104 +32,59 @@ pub fn host<S: Store, O: Sink, E: Sink>(
     out: &mut O,
     err: &mut E,
 ) -> u8
-    // Where nothing fails, the status and what the streams get are the answer to the words and the files: those that the
-    // store tells, or some files where it tells nothing.
-    ensures answer { result ≢ 203 → result ≢ 210 → result ≢ 211 → ForFilesOf (S.held store.old) (λ files.
-        GivesAnswer (answer (texts words.now) files) result
-        (O.contents out.old) (O.contents out.new) (E.contents err.old) (E.contents err.new)) }
-
-    // A read failed, of a file before whose reading nothing is refused.
-    ensures unreadable { result ≡ 203 → Rose (S.faults store.old) (S.faults store.new) × CouldNotRead
-        (command (texts words.now)) (O.contents out.old) (O.contents out.new) (E.contents err.old) (E.contents err.new) }
-
-    // A put failed.
-    ensures put_failed { result ≡ 210 → Rose (O.faults out.old) (O.faults out.new) ⊎ Rose (E.faults err.old) (E.faults err.new) }
-    ensures out_front { result ≡ 210 → ForFilesOf (S.held store.old) (λ files.
-        AppendsFront (O.contents out.old) (O.contents out.new) (answer (texts words.now) files).out) }
-    ensures err_quiet { result ≡ 210 → (E.contents err.new ≡ E.contents err.old) ⊎ Rose (E.faults err.old) (E.faults err.new) }
-    ensures err_front { result ≡ 210 → ForFilesOf (S.held store.old) (λ files.
-        GotFrontOfLine (answer (texts words.now) files) (command (texts words.now))
-        (Rose (S.faults store.old) (S.faults store.new)) (E.contents err.old) (E.contents err.new)) }
-
-    // There was no memory.
-    ensures no_memory { result ≡ 211 → (E.contents err.new ≡ appended (E.contents err.old) memory_line)
-        × ForFilesOf (S.held store.old) (λ files.
-        AppendsFront (O.contents out.old) (O.contents out.new) (answer (texts words.now) files).out) }
+    // What the streams got is what the answer to the words and the files says, by the status.
+    ensures called { Called (texts words.now) result
+        (of_store (S.held store.old) (S.held store.new) (S.faults store.old) (S.faults store.new))
+        (of_sink (O.contents out.old) (O.contents out.new) (O.faults out.old) (O.faults out.new))
+        (of_sink (E.contents err.old) (E.contents err.new) (E.faults err.old) (E.faults err.new)) }
 
     // No failure is passed over.
-    ensures store_uncounted { result ≢ 203 → result ≢ 210 → result ≢ 211 → S.faults store.new ≡ S.faults store.old }
-    ensures out_uncounted { result ≢ 210 → O.faults out.new ≡ O.faults out.old }
-    ensures err_uncounted { result ≢ 210 → E.faults err.new ≡ E.faults err.old }
-
-    ensures store_count { S.faults store.old ≤ S.faults store.new }
-    ensures out_count { O.faults out.old ≤ O.faults out.new }
-    ensures err_count { E.faults err.old ≤ E.faults err.new }
-    ensures kept { S.held store.new ≡ S.held store.old }
+    ensures counts { Counts result
+        (of_store (S.held store.old) (S.held store.new) (S.faults store.old) (S.faults store.new))
+        (of_sink (O.contents out.old) (O.contents out.new) (O.faults out.old) (O.faults out.new))
+        (of_sink (E.contents err.old) (E.contents err.new) (E.faults err.old) (E.faults err.new)) }
 {
-    let carried = carry_out(alloc, words, store, out);
-    settle(alloc, carried, err)
+    let ending = carry_out(alloc, words, store, out);
+    close(alloc, ending, err)
 }
 
-/// The exit status, behind the line of a call that stopped.
-fn settle<E: Sink>(alloc: Global, carried: Result<(), Stop>, err: &mut E) -> u8
-    ensures settled { IsSettled carried result (E.contents err.old) (E.contents err.new)
-        (E.faults err.old) (E.faults err.new) }
-    ensures count { E.faults err.old ≤ E.faults err.new }
-{
-    match carried {
-        Ok(()) => 0,
-        Err(Stop::SinkFailed) => 210,
-        Err(stop) => put_line(alloc, &stop, err),
-    }
-}
-
-/// Does what the words ask for, but for the line of a call that stops.
+/// Does what the words ask for, but for what err gets at the end.
 fn carry_out<S: Store, O: Sink>(
     alloc: Global,
     words: &[String],
     store: &mut S,
     out: &mut O,
-) -> Result<(), Stop>
-    ensures meets { ForFilesOf (S.held store.old) (λ files.
-        Meets (answer (texts words.now) files) result (O.contents out.old) (O.contents out.new)) }
-    ensures unreadable { IfUnreadable (command (texts words.now)) result
-        (S.faults store.old) (S.faults store.new) (O.contents out.old) (O.contents out.new) }
-    ensures store_counted { CountsStore result (S.faults store.old) (S.faults store.new) }
-    ensures sink_counted { CountsSink result (O.faults out.old) (O.faults out.new) }
-    ensures store_count { S.faults store.old ≤ S.faults store.new }
-    ensures out_count { O.faults out.old ≤ O.faults out.new }
-    ensures kept { S.held store.new ≡ S.held store.old }
+) -> Result<Settled, Halt>
+    ensures { Obeys (Answers (texts words.now)) (names_read (texts words.now)) result
+        (of_store (S.held store.old) (S.held store.new) (S.faults store.old) (S.faults store.new))
+        (of_sink (O.contents out.old) (O.contents out.new) (O.faults out.old) (O.faults out.new)) }
 {
     match read_words(alloc, words)? {
-        Some(command) => obey(alloc, command, store, out),
-        None => Err(Stop::Refused(Refusal::Usage)),
+        Some(command) => obey(alloc, command, words, store, out),
+        None => usage(alloc),
     }
 }
 
-/// Does what a command asks for, but for the line of a call that stops.
+/// Does what a command asks for that stands in these words.
 fn obey<S: Store, O: Sink>(
     alloc: Global,
     command: Command,
+    words: &[String],
     store: &mut S,
     out: &mut O,
-) -> Result<(), Stop>
-    requires { KeepsBounds command }
-    ensures meets { ForFilesOf (S.held store.old) (λ files.
-        Meets (answer_to (Some command) files) result (O.contents out.old) (O.contents out.new)) }
-    ensures unreadable { IfUnreadable (Some command) result
-        (S.faults store.old) (S.faults store.new) (O.contents out.old) (O.contents out.new) }
-    ensures store_counted { CountsStore result (S.faults store.old) (S.faults store.new) }
-    ensures sink_counted { CountsSink result (O.faults out.old) (O.faults out.new) }
-    ensures store_count { S.faults store.old ≤ S.faults store.new }
-    ensures out_count { O.faults out.old ≤ O.faults out.new }
-    ensures kept { S.held store.new ≡ S.held store.old }
+) -> Result<Settled, Halt>
+    requires { KeepsBounds (texts words.now) command }
+    ensures { Obeys (IsAnswer (Some command) (texts words.now))
+        (names_of (readings (Some command) (texts words.now))) result
+        (of_store (S.held store.old) (S.held store.new) (S.faults store.old) (S.faults store.new))
+        (of_sink (O.contents out.old) (O.contents out.new) (O.faults out.old) (O.faults out.new)) }
 {
     match command {
         Command::Imports(file) => imports(alloc, file, store, out),
-        Command::Stubs(_) => Err(Stop::Refused(Refusal::Usage)),
+        Command::Stubs(_) => usage(alloc),
         Command::Native(lib, symbol, numbers) => native(alloc, lib, symbol, &numbers, store, out),
-        Command::Run(_) => Err(Stop::Refused(Refusal::Usage)),
-        Command::Drill(_) => Err(Stop::Refused(Refusal::Usage)),
+        Command::Run(_) => usage(alloc),
+        Command::Drill(_) => usage(alloc),
     }
 }
 
@@ -139,19 +94,14 @@ fn imports<S: Store, O: Sink>(
     file: Word,
     store: &mut S,
     out: &mut O,
-) -> Result<(), Stop>
-    ensures meets { ForFilesOf (S.held store.old) (λ files.
-        Meets (imports_answer file (files file)) result (O.contents out.old) (O.contents out.new)) }
-    ensures unreadable { IfUnreadable (Some (Imports file)) result
-        (S.faults store.old) (S.faults store.new) (O.contents out.old) (O.contents out.new) }
-    ensures store_counted { CountsStore result (S.faults store.old) (S.faults store.new) }
-    ensures sink_counted { CountsSink result (O.faults out.old) (O.faults out.new) }
-    ensures store_count { S.faults store.old ≤ S.faults store.new }
-    ensures out_count { O.faults out.old ≤ O.faults out.new }
-    ensures kept { S.held store.new ≡ S.held store.old }
+) -> Result<Settled, Halt>
+    ensures { Obeys (IsAnswer (Some (Imports file)) [])
+        (names_of (readings (Some (Imports file)) [])) result
+        (of_store (S.held store.old) (S.held store.new) (S.faults store.old) (S.faults store.new))
+        (of_sink (O.contents out.old) (O.contents out.new) (O.faults out.old) (O.faults out.new)) }
 {
     match read_file(alloc, file.as_str(), store) {
         Ok(bytes) => put_imports_of(alloc, bytes.as_slice(), out),
-        Err(error) => Err(file_stop(file, error)),
+        Err(error) => unread(alloc, file, error),
     }
 }

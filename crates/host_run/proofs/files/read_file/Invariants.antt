@@ -1,6 +1,7 @@
 -- a front of the contents is read, and it isn't too large yet
 use Rattle.std.proofs.Common.{◌≡◌, ◌≤◌, ◌-◌, length, vec_len}
 use Rattle.bound_base.specs.Outside.{contents_under}
+use Rattle.bound_base.specs.Names.{IsBytes}
 use Rattle.host_run.specs.Files.{IsFront, file_limit}
 use Rattle.host_run.proofs.files.read_file.Given as goal
 
@@ -10,6 +11,7 @@ invariant-loop-file g l = record {
   front : IsFront (contents_under (g.S.Store.held l.initial.store) l.name) l.file;
   count : g.S.Store.faults l.store ≡ g.S.Store.faults l.initial.store;
   small : length l.file ≤ file_limit;
+  bytes : IsBytes l.file;
   room : vec_len l.piece ≡ 65536;
 }
 

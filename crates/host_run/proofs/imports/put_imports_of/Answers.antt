@@ -1,23 +1,30 @@
+use Rattle.std.proofs.Common.{◌≡◌, ap, refl, Ok}
 use Rattle.std.proofs.lemmas.Result.{err_from_is_err_and}
-use Rattle.host_run.proofs.Images.{refuses-headers, refuses-metadata, meets-refused, assembly-read, meets-imports, meets-stopped}
 use Rattle.byte_view.specs.Assembly.{assembly}
+use Rattle.host_run.specs.Answer.{done}
+use Rattle.host_run.specs.Imports.{imports_text, imports_of}
+use Rattle.bound_base.specs.Image.{refusal}
+use Rattle.byte_view.proofs.Images.{headers_refuse, metadata_refuses, assembly_read}
+use Rattle.host_run.proofs.Images.{finishes-broken, finishes-same}
+use Rattle.host_run.proofs.Finished.{finishes-done, finishes-stopped}
 use Rattle.host_run.proofs.imports.put_imports_of.Goals as goal
 
-pub returns-in_err-pe-clause-meets : goal.returns-in_err-pe-clause-meets
-returns-in_err-pe-clause-meets g c =
+pub returns-in-Err : goal.returns-in-Err
+returns-in-Err g c =
+    finishes-broken c.in-Err.error (assembly c.args.bytes.now) c.broken_image.result _ (headers_refuse refusal c.in-Err.error c.args.bytes.now c.in-Err.ensures.headers) c.broken_image.ensures refl refl
+
+pub returns-in-Err-read_meta : goal.returns-in-Err-read_meta
+returns-in-Err-read_meta g c =
+    finishes-broken c.in-Err-read_meta.error (assembly c.args.bytes.now) c.broken_image-in-Err-read_meta.result _ (metadata_refuses refusal c.in-Err-read_meta.error c.args.bytes.now _ c.in-Ok.ensures.headers c.in-Err-read_meta.ensures) c.broken_image-in-Err-read_meta.ensures refl refl
+
+pub returns-in_err-put_imports : goal.returns-in_err-put_imports
+returns-in_err-put_imports g c =
     let p = err_from_is_err_and c.from_residual.result c.from_residual.ensures.1 in
-    rw (p.1, p.2) (meets-refused _ _ _ (refuses-headers _ c.args.bytes.now c.in_err-pe.ensures.headers))
+    let m = c.in-Ok-read_meta.meta in
+    rw (p.1, p.2)
+    (finishes-same (done (imports_text m)) (imports_of (assembly c.args.bytes.now)) _ _ (ap imports_of (assembly_read c.args.bytes.now _ m c.in-Ok.ensures.headers c.in-Ok-read_meta.ensures)) (finishes-stopped (imports_text m) _ _ c.in_err-put_imports.ensures.puts c.in_err-put_imports.ensures.counted c.in_err-put_imports.ensures.count))
 
-pub returns-in_err-meta-clause-meets : goal.returns-in_err-meta-clause-meets
-returns-in_err-meta-clause-meets g c =
-    let p = err_from_is_err_and c.from_residual-in_err-meta.result c.from_residual-in_err-meta.ensures.1 in
-    rw (p.1, p.2) (meets-refused _ _ _ (refuses-metadata _ c.args.bytes.now _ c.in_ok-pe.ensures.headers c.in_err-meta.ensures))
-
-pub returns-in_err-put_imports-clause-meets : goal.returns-in_err-put_imports-clause-meets
-returns-in_err-put_imports-clause-meets g c =
-    let p = err_from_is_err_and c.from_residual-in_err-put_imports.result c.from_residual-in_err-put_imports.ensures.1 in
-    rw (p.1, p.2) (meets-stopped _ (assembly c.args.bytes.now) c.in_ok-meta.meta _ _ (assembly-read c.args.bytes.now _ c.in_ok-meta.meta c.in_ok-pe.ensures.headers c.in_ok-meta.ensures) c.in_err-put_imports.ensures.puts)
-
-pub returns-clause-meets : goal.returns-clause-meets
-returns-clause-meets g c =
-    meets-imports (assembly c.args.bytes.now) c.in_ok-meta.meta tt _ _ (assembly-read c.args.bytes.now _ c.in_ok-meta.meta c.in_ok-pe.ensures.headers c.in_ok-meta.ensures) c.in_ok-put_imports.ensures.puts
+pub returns : goal.returns
+returns g c =
+    let m = c.in-Ok-read_meta.meta in
+    finishes-same (done (imports_text m)) (imports_of (assembly c.args.bytes.now)) _ _ (ap imports_of (assembly_read c.args.bytes.now _ m c.in-Ok.ensures.headers c.in-Ok-read_meta.ensures)) (finishes-done (imports_text m) c.done.result _ c.done.ensures.status c.done.ensures.texts c.in_ok-put_imports.ensures.puts c.in_ok-put_imports.ensures.counted c.in_ok-put_imports.ensures.count)

@@ -1,14 +1,17 @@
 -- What isn't built is answered by the usage line, whatever the files.
-use Rattle.std.proofs.Common.{ap, Some}
-use Rattle.host_run.specs.Commands.{answer_to}
-use Rattle.host_run.proofs.Contents.{usage-given}
+use Rattle.std.proofs.Common.{ap, refl, Some}
+use Rattle.host_run.specs.Grammar.{texts}
+use Rattle.host_run.proofs.Contents.{obeys-usage, usage-for}
 use Rattle.host_run.proofs.top_call.obey.Goals as goal
 
-pub returns-in-Stubs-clause-meets : goal.returns-in-Stubs-clause-meets
-returns-in-Stubs-clause-meets g c = usage-given (g.S.Store.held c.args.store.now) (Some c.args.command) (g.O.Sink.contents c.args.out.now) (λ files. ap (λ k. answer_to (Some k) files) c.in-Stubs.is)
+pub returns-in-Stubs : goal.returns-in-Stubs
+returns-in-Stubs g c =
+    obeys-usage (Some c.args.command) (texts c.args.words.now) _ c.usage.result _ _ (λ files. usage-for (Some c.args.command) _ (texts c.args.words.now) files (ap Some c.in-Stubs.is) refl) c.usage.ensures refl refl refl refl
 
-pub returns-in-Run-clause-meets : goal.returns-in-Run-clause-meets
-returns-in-Run-clause-meets g c = usage-given (g.S.Store.held c.args.store.now) (Some c.args.command) (g.O.Sink.contents c.args.out.now) (λ files. ap (λ k. answer_to (Some k) files) c.in-Run.is)
+pub returns-in-Run : goal.returns-in-Run
+returns-in-Run g c =
+    obeys-usage (Some c.args.command) (texts c.args.words.now) _ c.usage-in-Run.result _ _ (λ files. usage-for (Some c.args.command) _ (texts c.args.words.now) files (ap Some c.in-Run.is) refl) c.usage-in-Run.ensures refl refl refl refl
 
-pub returns-clause-meets : goal.returns-clause-meets
-returns-clause-meets g c = usage-given (g.S.Store.held c.args.store.now) (Some c.args.command) (g.O.Sink.contents c.args.out.now) (λ files. ap (λ k. answer_to (Some k) files) c.in-Drill.is)
+pub returns : goal.returns
+returns g c =
+    obeys-usage (Some c.args.command) (texts c.args.words.now) _ c.usage-in-Drill.result _ _ (λ files. usage-for (Some c.args.command) _ (texts c.args.words.now) files (ap Some c.in-Drill.is) refl) c.usage-in-Drill.ensures refl refl refl refl
