@@ -2,7 +2,7 @@
 
 use crate::setting::{Bounds, Setting};
 use crate::words::words_of;
-use bound_base::{Items, escape};
+use bound_base::Items;
 use host_run::host;
 use outside_kit::{MemSink, MemStore};
 use std::alloc::Global;
@@ -64,17 +64,20 @@ pub fn print_call(
     };
     let given = call(alloc, row, setting.name.as_str(), file, &bounds)?;
     print!(rt; "{row} = {} [", given.status)?;
-    print_escaped(rt, given.out.bytes())?;
+    print_bytes(rt, given.out.bytes())?;
     print!(rt; "] [")?;
-    print_escaped(rt, given.err.bytes())?;
+    print_bytes(rt, given.err.bytes())?;
     println!(rt; "]")?;
     Ok(())
 }
 
 /// Prints bytes, those that don't show in hexadecimal.
-fn print_escaped(rt: &(impl Print + AllocGlobal), bytes: &[u8]) -> anyhow::Result<()> {
-    for byte in escape(rt.alloc(), bytes)?.as_slice() {
-        print!(rt; "{}", char::from(*byte))?;
+fn print_bytes(rt: &impl Print, bytes: &[u8]) -> anyhow::Result<()> {
+    for byte in bytes {
+        match *byte {
+            b' '..=b'~' => print!(rt; "{}", char::from(*byte))?,
+            _ => print!(rt; "\\{byte:02x}")?,
+        }
     }
     Ok(())
 }

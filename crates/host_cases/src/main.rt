@@ -8,7 +8,7 @@
 //! - `set AT HEX` writes bytes into it, `cut N` keeps its front.
 //! - `fail read N`, `fail out N`, `fail err N` make that call fail, counted from 0, and `room out N`, `room err N` bound a
 //!   stream, for the next call alone.
-//! - `host WORD..` prints the status and what out and err got, escaped; `fronts WORD..` does the same for each proper front
+//! - `host WORD..` prints the status and what out and err got, in hexadecimal what doesn't show; `fronts WORD..` does the same for each proper front
 //!   of the file, twice, and prints how many had the status of the first.
 //! - `words WORD..` prints the command that the words ask for; `program COUNT LENGTH ..` whether `run` takes a program of so
 //!   many words of so many bytes, for each pair.
@@ -19,9 +19,8 @@ mod images;
 mod setting;
 mod words;
 
-use anyhow::{Context, bail};
 use setting::Setting;
-use std::alloc::Global;
+use std::rt::Files;
 
 fn main(rt: HostRuntime) -> anyhow::Result<()> {
     let mut setting = Setting::new(rt.alloc());
