@@ -10,7 +10,7 @@ use borrow.Author.Tests.{ltb-true, leb-true}
 use Rattle.native_memory.specs.AddressSpace.{Block, AddressSpace, lowest}
 use Rattle.native_memory.specs.Placement.{base_of, edge_of, holds_address}
 use Rattle.native_memory.specs.Sound.{LieBetween, IsSound}
-use Rattle.elf_binder.specs.Modules.{host_names, host_place, host_address}
+use Rattle.host_functions.specs.HostFunctions.{host_names, host_place, place_named}
 use Rattle.elf_binder.specs.Laws.{IsHostPlace}
 use Rattle.elf_binder.proofs.Finding.{find_none, found_passes}
 
@@ -46,9 +46,8 @@ unfolding base_of
 outside_blocks address space sound less =
     ap (option_map (λ (block : Block). block.base)) (find_none (holds_address address) space.blocks (none_below address lowest space.edge space.blocks sound.apart less))
 
-module _ (name : List ℕ) (address : ℕ) (is : host_address name ≡ Some address) where
+module _ (name : List ℕ) (address : ℕ) (is : place_named name ≡ Some address) where
   pub host_place_is : IsHostPlace name address
-  unfolding host_address
   host_place_is =
       let here = numbered (position (λ host. bytes_eq host name) host_names) address is in
       let named = placed_text host_names name here.0 here.1 in

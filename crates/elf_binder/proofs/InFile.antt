@@ -70,9 +70,9 @@ later a b (load ∷ more) h all = (omega (arith, all.0), later a b more h all.1)
 load_stands : (bytes : List ℕ) (end at : ℕ) (load : Load) → load_at bytes end at ≡ Ok load → load.at ≡ at
 unfolding load_at
 load_stands bytes end at load e =
-    bind_then (must (nat_le (le bytes (at + 8) 8 + le bytes (at + 32) 8) (length bytes)) parts.load (at + 8)) _ load e (λ a _ e1.
-    bind_then (must (nat_le (le bytes (at + 32) 8) (le bytes (at + 40) 8)) parts.load (at + 32)) _ load e1 (λ b _ e2.
-    bind_then (must (nat_le end (le bytes (at + 16) 8) && nat_lt (le bytes (at + 16) 8 + le bytes (at + 40) 8) (2 ^ 32)) parts.load (at + 16)) _ load e2 (λ c _ e3.
+    bind_then (must {R = Broken} (nat_le (le bytes (at + 8) 8 + le bytes (at + 32) 8) (length bytes)) (parts.load, at + 8)) _ load e (λ a _ e1.
+    bind_then (must {R = Broken} (nat_le (le bytes (at + 32) 8) (le bytes (at + 40) 8)) (parts.load, at + 32)) _ load e1 (λ b _ e2.
+    bind_then (must {R = Broken} (nat_le end (le bytes (at + 16) 8) && nat_lt (le bytes (at + 16) 8 + le bytes (at + 40) 8) (2 ^ 32)) (parts.load, at + 16)) _ load e2 (λ c _ e3.
     sym (ap (λ (load : Load). load.at) (same_read _ load e3)))))
 
 one_more : (bytes : List ℕ) (before after : List Load) (at end : ℕ) (is_load : Bool) → Each (EndBy at) before → at + 56 ≤ end
@@ -107,7 +107,7 @@ unfolding program_headers
 loads_in_file bytes headers all e read =
     bind_then (field_where (λ size. size == 56) parts.program_headers bytes 54 2) _ headers e (λ size size_read e1.
     bind_then (field parts.program_headers bytes 56 2) _ headers e1 (λ n n_read e2.
-    bind_then (must (n == 0 || nat_le (le bytes 32 8 + 56 * n) (length bytes)) parts.program_headers 32) _ headers e2 (λ passed must_read e3.
+    bind_then (must {R = Broken} (n == 0 || nat_le (le bytes 32 8 + 56 * n) (length bytes)) (parts.program_headers, 32)) _ headers e2 (λ passed must_read e3.
     let pair : ◌≡◌ {A = ℕ × ℕ} (le bytes 32 8, n) headers = same_read _ headers e3 in
     let here : loads bytes (le bytes 32 8) n ≡ Ok all = rw (ap (λ (x : ℕ × ℕ). x.0) pair, ap (λ (x : ℕ × ℕ). x.1) pair) read in
     within_file (le bytes 32 8) n (length bytes) all (must_ok _ (parts.program_headers, 32) passed must_read)
@@ -194,7 +194,7 @@ table_in : (bytes : List ℕ) (header : ℕ) (table : List Entry) → dynamic_ta
 unfolding dynamic_table
 table_in bytes header table e =
     bind_then (check_entries (before_first is_end (entries bytes header))) _ table e (λ a _ e1.
-    bind_then (must (nat_lt (length (before_first is_end (entries bytes header))) (length (entries bytes header))) parts.dynamic (header + 8)) _ table e1 (λ b _ e2.
+    bind_then (must {R = Broken} (nat_lt (length (before_first is_end (entries bytes header))) (length (entries bytes header))) (parts.dynamic, header + 8)) _ table e1 (λ b _ e2.
     subst (Each (TagIn (length bytes))) (same_read _ table e2) (each_taken (TagIn (length bytes)) _ (entries bytes header) (entries_end bytes header))))
 
 -- the entry of the array of initializers, unless there is no such array

@@ -2,7 +2,8 @@
 use Rattle.std.proofs.Common.{◌≡◌, ℕ, ◌+◌, ◌<◌, ◌≤◌, List, [], ◌∷◌, ◌++◌, length, get_or, drop, Option, Some, None, refl, sym, ap, ◌∙◌}
 use Rattle.std.proofs.lemmas.List.{at_drop_more, at_drop_all}
 use Rattle.std.proofs.lemmas.List.Elements.{All-head, All-tail}
-use Rattle.elf_binder.specs.Modules.{Module, defined_in, address_of, host_address}
+use Rattle.elf_binder.specs.Modules.{Module, defined_in, address_of}
+use Rattle.host_functions.specs.HostFunctions.{place_named}
 use Rattle.elf_binder.specs.Laws.{FirstLibraryCounts, NamesStayDefined}
 
 -- a library that defines the name gives the address
@@ -17,7 +18,7 @@ unfolding address_of
 first_passed m more name undefined =
     ap (λ (found : Option ℕ). elim found as (λ _. Option ℕ) [ Some a ↦ Some a | None ↦ address_of more name ]) undefined
 
-pub none_left : (name : List ℕ) → address_of [] name ≡ host_address name
+pub none_left : (name : List ℕ) → address_of [] name ≡ place_named name
 unfolding address_of
 none_left name = refl
 
@@ -35,7 +36,7 @@ module _ (modules : List Module) (name : List ℕ) (k : ℕ) where
       at_drop_more (λ (l : List Module). address_of l name) modules k m within
       ∙ first_passed (get_or modules k m) (drop (k + 1) modules) name (ap (defined_in name) (sym here) ∙ undefined)
 
-  pub past_all : length modules ≤ k → address_of (drop k modules) name ≡ host_address name
+  pub past_all : length modules ≤ k → address_of (drop k modules) name ≡ place_named name
   past_all end = at_drop_all (λ (l : List Module). address_of l name) modules k end ∙ none_left name
 
 -- ---- laws

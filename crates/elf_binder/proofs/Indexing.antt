@@ -16,15 +16,15 @@ use Rattle.std.proofs.lemmas.List.Sorted.{searchable_from_sorted, ranks_by}
 use Rattle.std.proofs.lemmas.Slice.Eq.{bytes_eq-Decides}
 use Rattle.elf_binder.specs.declared.module.Export.{Export}
 use Rattle.elf_binder.specs.Modules.{has_name}
-use Rattle.elf_binder.specs.Index.{name_at, compared, precedes, SplitsAt, is_named, is_wanted, places_of, IsIndex}
+use Rattle.elf_binder.specs.Index.{export_name, compared, precedes, SplitsAt, is_named, is_wanted, indexes_of, IsByName}
 use Rattle.elf_binder.proofs.Finding.{hit, find_equal, parted, same_found}
 
 named_is : (exports : List Export) (name : List ℕ) (place : ℕ) → is_named exports name place ≡ is_eq (compared exports name place)
-named_is exports name place = lists_ties nat_cmp unsigned_ties (name_at exports place) name
+named_is exports name place = lists_ties nat_cmp unsigned_ties (export_name exports place) name
 
 module _ (exports : List Export) (places : List ℕ) (name : List ℕ) (sorted : IsSortedBy (precedes exports) places) where
   rises : IsNonDecreasingBy (λ place. ordering_index (compared exports name place)) places
-  rises = searchable_from_sorted nat_list_cmp_total (name_at exports) places name sorted
+  rises = searchable_from_sorted nat_list_cmp_total (export_name exports) places name sorted
 
   pub names_parted : IsPartitionedBy (λ place. is_lt (compared exports name place)) places
   names_parted = parted (compared exports name) places rises
@@ -84,8 +84,8 @@ tied_are_equal r Greater is = ap (λ o. not (is_lt o) && true) is
 ties_named : (exports : List Export) (name : List ℕ) (place other : ℕ) → is_named exports name place ≡ true
     → ties (precedes exports) place other ≡ is_named exports name other
 ties_named exports name place other named =
-    tied_are_equal _ _ (nat_list_cmp_total.antisymm (name_at exports place) (name_at exports other))
-    ∙ ap (λ (n : List ℕ). is_eq (slice_cmp nat_cmp (name_at exports other) n)) ((bytes_eq-Decides (name_at exports place) name).0 named)
+    tied_are_equal _ _ (nat_list_cmp_total.antisymm (export_name exports place) (export_name exports other))
+    ∙ ap (λ (n : List ℕ). is_eq (slice_cmp nat_cmp (export_name exports other) n)) ((bytes_eq-Decides (export_name exports place) name).0 named)
     ∙ sym (named_is exports name other)
 
 there : (front : List Export) (export : Export) (more : List Export) → slice_get (front ++ export ∷ more) (length front) ≡ Some export
@@ -135,9 +135,9 @@ module _ (only_callable : Bool) (exports : List Export) (name : List ℕ) where
   found_in_order = listed [] exports refl
 
 -- places that a stable sort by the names has put in order
-pub index_is : (only_callable : Bool) (exports : List Export) (places : List ℕ) → IsPermutation (places_of only_callable exports) places
-    → IsSortedBy (precedes exports) places → IsStableBy (precedes exports) (places_of only_callable exports) places
-    → IsIndex only_callable exports places
+pub index_is : (only_callable : Bool) (exports : List Export) (places : List ℕ) → IsPermutation (indexes_of only_callable exports) places
+    → IsSortedBy (precedes exports) places → IsStableBy (precedes exports) (indexes_of only_callable exports) places
+    → IsByName only_callable exports places
 index_is only_callable exports places moves sorted stable =
     let tied = λ (name : List ℕ) (place : ℕ) (named : is_named exports name place ≡ true) (list : List ℕ).
     filter_agree (ties (precedes exports) place) (is_named exports name) (λ other. ties_named exports name place other named) list in
@@ -145,10 +145,10 @@ index_is only_callable exports places moves sorted stable =
       sorted = sorted;
       finds = λ name.
           ap (option_and_then (slice_get exports))
-          (same_found (is_named exports name) (places_of only_callable exports) places
-          (λ place named. sym (tied name place named places) ∙ stable place ∙ tied name place named (places_of only_callable exports)) moves)
+          (same_found (is_named exports name) (indexes_of only_callable exports) places
+          (λ place named. sym (tied name place named places) ∙ stable place ∙ tied name place named (indexes_of only_callable exports)) moves)
           ∙ found_in_order only_callable exports name;
     }
 
 pub names_rank : (exports : List Export) → IsStrictWeakOrder (precedes exports)
-names_rank exports = ranks_by nat_list_cmp_total (name_at exports)
+names_rank exports = ranks_by nat_list_cmp_total (export_name exports)

@@ -17,26 +17,20 @@ use Rattle.native_memory.proofs.Reached.{follows_on}
 use Rattle.native_memory.proofs.WrittenBytes.{written_bytes}
 use Rattle.elf_binder.specs.declared.relocation.Kind.{Kind}
 use Rattle.elf_binder.specs.declared.relocation.Kind.TheVariants.{Nothing, Absolute32, Absolute64, Relative, JumpSlot}
-use Rattle.elf_binder.specs.Steps.{Unbound, must}
+use Rattle.byte_view.specs.Reading.{must}
+use Rattle.elf_binder.specs.Unbound.{Unbound}
 use Rattle.elf_binder.specs.Modules.{Module}
 use Rattle.elf_binder.specs.Loading.{Source}
 use Rattle.elf_binder.specs.Relocating.{kind_of, width_of, is_target, is_writable, value_for, bytes_for, write_relocation, relocate_as, relocate, relocate_library}
 use Rattle.elf_binder.specs.BindingLaws.{IsInWritableLoad}
-use Rattle.elf_binder.proofs.KeptBySteps.{went, same_ok, kept}
+use Rattle.byte_view.proofs.Reading.{bind_then, same_read, must_ok, ok_or_ok}
+use Rattle.elf_binder.proofs.KeptBySteps.{kept}
 use Rattle.elf_binder.proofs.Standing.{each_true}
 
 -- memory is sound, and has a byte at an address as other memory has it
 pub record HasByteOf (old : AddressSpace) (addr : ℕ) (now : AddressSpace) : Type 0 where
   pub sound : IsSound now
   pub byte : byte_at now addr ≡ byte_at old addr
-
-must_hold : (holds : Bool) (d : Unbound) (x : ℕ) → must holds d ≡ Ok x → holds ≡ true
-must_hold true d x e = refl
-must_hold false d x e = absurd (cc)
-
-found_ok : {A : Type 0} (o : Option A) (d : Unbound) (x : A) → ok_or {E = Unbound} o d ≡ Ok x → o ≡ Some x
-found_ok (Some y) d x e = ap Some (same_ok y x e)
-found_ok None d x e = absurd (cc)
 
 -- as many bytes as the kind says
 pub length-bytes : (kind : Kind) (base symbol addend : ℕ) → length (bytes_for kind base symbol addend) ≡ width_of kind
@@ -88,17 +82,17 @@ relocation_writes : (modules : List Module) (source : Source) (base : ℕ) (old 
     → HasByteOf old addr now → write_relocation modules source base now r kind ≡ Ok new → HasByteOf old addr new
 unfolding write_relocation
 relocation_writes modules source base old now r kind new addr out before e =
-    went (must (is_writable source.library.loads r.offset (width_of kind)) (source.number, parts.reloc_target, r.at)) _ new e (λ holds passed e1.
-    went (ok_or (value_for modules source.library.symbols kind r.symbol) (source.number, parts.unresolved, r.at + 8)) _ new e1 (λ symbol found e2.
-    let target = must_hold (is_writable source.library.loads r.offset (width_of kind)) (source.number, parts.reloc_target, r.at) holds passed in
+    bind_then (must (is_writable source.library.loads r.offset (width_of kind)) (source.number, parts.reloc_target, r.at)) _ new e (λ holds passed e1.
+    bind_then (ok_or (value_for modules source.library.symbols kind r.symbol) (source.number, parts.unresolved, r.at + 8)) _ new e1 (λ symbol found e2.
+    let target = must_ok (is_writable source.library.loads r.offset (width_of kind)) (source.number, parts.reloc_target, r.at) holds passed in
     let from : List ℕ = bytes_for kind base symbol (cast_unsigned w64 r.addend) in
-    let wrote = found_ok (written_at now (base + r.offset) from) (source.number, parts.reloc_target, r.at) new e2 in
+    let wrote = ok_or_ok (written_at now (base + r.offset) from) (source.number, parts.reloc_target, r.at) new e2 in
     write_keeps old now new (base + r.offset) (width_of kind) addr from (length-bytes kind base symbol (cast_unsigned w64 r.addend)) before wrote
     (λ low high. out (inside source base r.offset (width_of kind) addr target low high))))
 
 relocation_as : (modules : List Module) (source : Source) (base : ℕ) (old now : AddressSpace) (r : Relocation) (kind : Kind) (new : AddressSpace) (addr : ℕ) → (IsInWritableLoad (source, base) addr → ⊥)
     → HasByteOf old addr now → relocate_as modules source base now r kind ≡ Ok new → HasByteOf old addr new
-relocation_as modules source base old now r Nothing new addr out before e = subst (HasByteOf old addr) (same_ok now new e) before
+relocation_as modules source base old now r Nothing new addr out before e = subst (HasByteOf old addr) (same_read now new e) before
 relocation_as modules source base old now r Absolute32 new addr out before e = relocation_writes modules source base old now r Absolute32 new addr out before e
 relocation_as modules source base old now r Absolute64 new addr out before e = relocation_writes modules source base old now r Absolute64 new addr out before e
 relocation_as modules source base old now r Relative new addr out before e = relocation_writes modules source base old now r Relative new addr out before e
@@ -108,7 +102,7 @@ relocation_keeps : (modules : List Module) (source : Source) (base : ℕ) (old :
     → (now : AddressSpace) (r : Relocation) (new : AddressSpace) → Unit {0} → HasByteOf old addr now → relocate modules source base now r ≡ Ok new → HasByteOf old addr new
 unfolding relocate
 relocation_keeps modules source base old addr out now r new any before e =
-    went (ok_or (kind_of r.kind) (source.number, parts.reloc_type, r.at + 8)) _ new e (λ kind found e1. relocation_as modules source base old now r kind new addr out before e1)
+    bind_then (ok_or (kind_of r.kind) (source.number, parts.reloc_type, r.at + 8)) _ new e (λ kind found e1. relocation_as modules source base old now r kind new addr out before e1)
 
 pub library_keeps : (modules : List Module) (old : AddressSpace) (addr : ℕ) (now : AddressSpace) (p : Source × ℕ) (new : AddressSpace) → (IsInWritableLoad p addr → ⊥) → HasByteOf old addr now → relocate_library modules now p ≡ Ok new
     → HasByteOf old addr new

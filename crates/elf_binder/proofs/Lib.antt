@@ -3,7 +3,6 @@ pub mod SourceLists
 pub mod Placing
 pub mod InFile
 pub mod LoadPlaces
-pub mod Refusing
 pub mod Finding
 pub mod Indexing
 pub mod Spelling

@@ -7,12 +7,8 @@ use Rattle.byte_view.specs.ElfLoads.{Load, end_of}
 use Rattle.byte_view.specs.ElfParts as parts
 use Rattle.native_memory.specs.AddressSpace.{Block, AddressSpace}
 use Rattle.native_memory.specs.Placement.{placed_at}
-use Rattle.elf_binder.specs.Steps.{Unbound}
-use Rattle.elf_binder.specs.Loading.{Source, rights_of, bytes_of, base_for, place_load, place_loads, place_library}
-
--- a load of some bytes is placed, or there is no room for it
-abbrev pub placing : Source → ℕ → AddressSpace → Load → Option AddressSpace
-placing source base space load = placed_at space (base + load.vaddr) (bytes_of source.file load) load.size (rights_of load)
+use Rattle.elf_binder.specs.Unbound.{Unbound}
+use Rattle.elf_binder.specs.Loading.{Source, base_for, placing, place_load, place_loads, place_library}
 
 some_bytes : (empty : Bool) (size : ℕ) (x y : Result AddressSpace Unbound) → nat_eq size 0 ≡ empty → (size ≡ 0 → ⊥) → (if empty then x else y) ≡ y
 some_bytes true size x y is some = absurd (some (grind (arith, nat_tests, is)))

@@ -1,6 +1,8 @@
 -- The list of the libraries that are bound.
-use Rattle.std.proofs.Common.{◌≡◌, ℕ, zero, suc, ◌+◌, List, [], ◌∷◌, length, map, Some, Ok, refl, ap, arith}
+use Rattle.std.proofs.Common.{◌≡◌, ℕ, zero, suc, ◌+◌, ◌<◌, List, [], ◌∷◌, length, get_or, map, Some, Ok, All, refl, ap, ◌∙◌, subst, arith}
 use Rattle.std.specs.Prelude.{slice_get}
+use Rattle.std.proofs.lemmas.List.{length-map}
+use Rattle.std.proofs.lemmas.Option.{slice_get_within, get_or_from_slice_get}
 use Rattle.byte_view.specs.Library.{Library, library}
 use Rattle.elf_reader.specs.declared.elf.Elf.{Elf}
 use Rattle.elf_reader.specs.Elf.{library_of}
@@ -9,28 +11,49 @@ use Rattle.elf_binder.specs.Binding.{sources_from}
 use Rattle.elf_binder.specs.Refusals.{AreRead}
 use Rattle.elf_binder.specs.Sources.{IsRead}
 
-pub source_is : (n : ℕ) (files : List (List ℕ)) (libraries : List Library) (k number : ℕ) (file : List ℕ) (library : Library) → n + k ≡ number → slice_get files k ≡ Some file → slice_get libraries k ≡ Some library
-    → slice_get (sources_from n files libraries) k ≡ Some (record { number = number; file = file; library = library })
-source_is n [] libraries k number file library at is_file is_library = absurd (cc)
-source_is n (f ∷ files) [] k number file library at is_file is_library = absurd (cc)
-source_is n (f ∷ files) (l ∷ libraries) zero number file library at is_file is_library =
-    let same_file : f ≡ file = cc in let same_library : l ≡ library = cc in
-    let here : n ≡ number = omega arith in rw (same_file, same_library, here) refl
-source_is n (f ∷ files) (l ∷ libraries) (suc k) number file library at is_file is_library = source_is (n + 1) files libraries k number file library (omega arith) is_file is_library
+pub source_is : (n : ℕ) (libraries : List Library) (files names : List (List ℕ)) (k number : ℕ)
+    (library : Library) (file name : List ℕ) → n + k ≡ number
+    → slice_get libraries k ≡ Some library → slice_get files k ≡ Some file → slice_get names k ≡ Some name
+    → slice_get (sources_from n libraries files names) k
+    ≡ Some (record { number = number; name = name; file = file; library = library })
+source_is n [] files names k number library file name at is_library is_file is_name = absurd (cc)
+source_is n (l ∷ libraries) [] names k number library file name at is_library is_file is_name = absurd (cc)
+source_is n (l ∷ libraries) (f ∷ files) [] k number library file name at is_library is_file is_name = absurd (cc)
+source_is n (l ∷ libraries) (f ∷ files) (m ∷ names) zero number library file name at is_library is_file is_name =
+    let same_library : l ≡ library = cc in
+    let same_file : f ≡ file = cc in
+    let same_name : m ≡ name = cc in
+    let here : n ≡ number = omega arith in
+    rw (same_library, same_file, same_name, here) refl
+source_is n (l ∷ libraries) (f ∷ files) (m ∷ names) (suc k) number library file name at is_library is_file is_name =
+    source_is (n + 1) libraries files names k number library file name (omega arith) is_library is_file is_name
 
-pub length-sources : (n : ℕ) (files : List (List ℕ)) (libraries : List Library) → length files ≡ length libraries → length (sources_from n files libraries) ≡ length libraries
-length-sources n [] [] same = refl
-length-sources n [] (l ∷ libraries) same = absurd (omega arith)
-length-sources n (f ∷ files) [] same = absurd (omega arith)
-length-sources n (f ∷ files) (l ∷ libraries) same = ap suc (length-sources (n + 1) files libraries (omega arith))
+pub length-sources : (n : ℕ) (libraries : List Library) (files names : List (List ℕ))
+    → length files ≡ length libraries → length names ≡ length libraries
+    → length (sources_from n libraries files names) ≡ length libraries
+length-sources n [] files names of_files of_names = refl
+length-sources n (l ∷ libraries) [] names of_files of_names = absurd (omega arith)
+length-sources n (l ∷ libraries) (f ∷ files) [] of_files of_names = absurd (omega arith)
+length-sources n (l ∷ libraries) (f ∷ files) (m ∷ names) of_files of_names =
+    ap suc (length-sources (n + 1) libraries files names (omega arith) (omega arith))
 
--- what was read, at a place
-pub read_at : (n : ℕ) (elfs : List Elf) (files : List (List ℕ)) (k : ℕ) (source : Source) → AreRead elfs files → slice_get (sources_from n files (map library_of elfs)) k ≡ Some source → IsRead source
-read_at n [] [] k source read is = absurd (cc)
-read_at n [] (f ∷ files) k source read is = absurd (cc)
-read_at n (e ∷ elfs) [] k source read is = absurd (cc)
-read_at n (e ∷ elfs) (f ∷ files) zero source read is =
-    let same : record { number = n; file = f; library = library_of e } ≡ source = cc in
-    let head : library f ≡ Ok (library_of e) = cc in
-    rw (← same) head
-read_at n (e ∷ elfs) (f ∷ files) (suc k) source read is = read_at (n + 1) elfs files k source (cc) is
+pub count_joined : (elfs : List Elf) (files names : List (List ℕ)) → length files ≡ length elfs → length names ≡ length elfs
+    → length (sources_from 0 (map library_of elfs) files names) ≡ length elfs
+count_joined elfs files names of_files of_names =
+    let mapped = length-map elfs library_of in
+    length-sources 0 (map library_of elfs) files names (omega (arith, mapped)) (omega (arith, mapped)) ∙ mapped
+
+-- all of them were read
+pub all_read : (n : ℕ) (elfs : List Elf) (files names : List (List ℕ)) → AreRead elfs files
+    → All IsRead (sources_from n (map library_of elfs) files names)
+all_read n [] files names read k d within = absurd (omega arith)
+all_read n (e ∷ elfs) [] names read k d within = absurd (omega arith)
+all_read n (e ∷ elfs) (f ∷ files) [] read k d within = absurd (omega arith)
+all_read n (e ∷ elfs) (f ∷ files) (m ∷ names) read zero d within =
+    let head : library f ≡ Ok (library_of e) = cc in head
+all_read n (e ∷ elfs) (f ∷ files) (m ∷ names) read (suc k) d within =
+    all_read (n + 1) elfs files names (cc) k d (omega arith)
+
+pub all_at : {A : Type 0} (P : A → Type 0) (xs : List A) (k : ℕ) (x : A) → All P xs → slice_get xs k ≡ Some x → P x
+all_at P xs k x all is =
+    subst P (get_or_from_slice_get xs k x x is) (all k x (slice_get_within xs k x is))

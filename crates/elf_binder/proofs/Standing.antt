@@ -15,12 +15,13 @@ use Rattle.native_memory.specs.Sound.{IsSound}
 use Rattle.native_memory.specs.Laws.{byte_at}
 use Rattle.native_memory.specs.Laws.Follows.{PlacesAt}
 use Rattle.native_memory.proofs.Reached.{GoesOn, follows_on}
-use Rattle.elf_binder.specs.Steps.{Unbound, steps}
-use Rattle.elf_binder.specs.Loading.{Source, Placed, base_for, rights_of, bytes_of, place_load, place_loads, place_library}
+use Rattle.byte_view.specs.Reading.{steps}
+use Rattle.elf_binder.specs.Unbound.{Unbound}
+use Rattle.elf_binder.specs.Loading.{Source, Placed, base_for, rights_of, bytes_of, placing, place_load, place_loads, place_library}
 use Rattle.elf_binder.specs.Sources.{IsRead}
 use Rattle.elf_binder.proofs.InFile.{Each, each_contained}
-use Rattle.elf_binder.proofs.KeptBySteps.{went, same_ok}
-use Rattle.elf_binder.proofs.Placing.{placing, edge_after}
+use Rattle.byte_view.proofs.Reading.{bind_then, same_read}
+use Rattle.elf_binder.proofs.Placing.{edge_after}
 
 -- memory after more was placed: what stood before is as it was
 pub record GrewFrom (old new : AddressSpace) : Type 0 where
@@ -92,14 +93,14 @@ load_or empty source base old load = if empty then Ok old else ok_or (placing so
 placed_or : (source : Source) (base : ℕ) (old : AddressSpace) (load : Load) (new : AddressSpace) (found : Option AddressSpace) → IsSound old → old.edge ≤ base + load.vaddr → load.file_size ≤ load.size
     → placing source base old load ≡ found → ok_or {E = Unbound} found (source.number, parts.load, load.at + 40) ≡ Ok new → GrewFrom old new × EndsBy base new.edge load
 placed_or source base old load new (Some space) sound behind fits is e =
-    placed_grows source base old load new sound behind fits (is ∙ ap Some (same_ok space new e))
+    placed_grows source base old load new sound behind fits (is ∙ ap Some (same_read space new e))
 placed_or source base old load new None sound behind fits is e = absurd (cc)
 
 load_if : (empty : Bool) (source : Source) (base : ℕ) (old : AddressSpace) (load : Load) (new : AddressSpace) → nat_eq load.size 0 ≡ empty → IsSound old → old.edge ≤ base + load.vaddr → load.file_size ≤ load.size
     → load_or empty source base old load ≡ Ok new → GrewFrom old new × EndsBy base new.edge load
 load_if true source base old load new is sound behind fits e =
     let none : load.size ≡ 0 = grind (arith, nat_tests, is) in
-    subst (λ (new : AddressSpace). GrewFrom old new × EndsBy base new.edge load) (same_ok old new e) (no_growth old sound, λ some. absurd (omega (arith, none, some)))
+    subst (λ (new : AddressSpace). GrewFrom old new × EndsBy base new.edge load) (same_read old new e) (no_growth old sound, λ some. absurd (omega (arith, none, some)))
 load_if false source base old load new is sound behind fits e = placed_or source base old load new (placing source base old load) sound behind fits refl e
 
 load_grows : (source : Source) (base : ℕ) (old : AddressSpace) (load : Load) (new : AddressSpace) → IsSound old → old.edge ≤ base + load.vaddr → load.file_size ≤ load.size → place_load source base old load ≡ Ok new
@@ -130,9 +131,9 @@ ascending base edge (load ∷ more) low apart = (
 loads_grow : (source : Source) (base : ℕ) (old : AddressSpace) (loads : List Load) (new : AddressSpace) → IsSound old → Ascend base old.edge loads → Each (λ load. load.file_size ≤ load.size) loads
     → steps (place_load source base) old loads ≡ Ok new → GrewFrom old new × Each (EndsBy base new.edge) loads
 unfolding steps
-loads_grow source base old [] new sound all fits e = subst (λ (new : AddressSpace). GrewFrom old new × Unit {0}) (same_ok old new e) (no_growth old sound, tt)
+loads_grow source base old [] new sound all fits e = subst (λ (new : AddressSpace). GrewFrom old new × Unit {0}) (same_read old new e) (no_growth old sound, tt)
 loads_grow source base old (load ∷ more) new sound all fits e =
-    went (place_load source base old load) (λ next. steps (place_load source base) next more) new e (λ between is rest.
+    bind_then (place_load source base old load) (λ next. steps (place_load source base) next more) new e (λ between is rest.
     let first = load_grows source base old load between sound all.0 fits.0 is in
     let reach : between.edge ≤ base + end_of load = edge_after source base old load between all.0 is in
     let later = loads_grow source base between more new first.0.sound (ascend_lower base between.edge (base + end_of load) more reach all.1) fits.1 rest in
@@ -158,10 +159,10 @@ library_adds before after source sound read e =
     let base : ℕ = base_for before.space in
     let all : LoadsLieApart source.file source.library.loads = loads_of_libraries_lie_apart source.file source.library read in
     let behind : before.space.edge ≤ base = base_behind before.space sound in
-    went (steps (place_load source base) before.space source.library.loads) _ after e (λ space is rest.
+    bind_then (steps (place_load source base) before.space source.library.loads) _ after e (λ space is rest.
     let grown = loads_grow source base before.space source.library.loads space sound (ascending base before.space.edge source.library.loads (λ k load _. omega arith) all.apart)
     (each_contained (λ load. load.file_size ≤ load.size) source.library.loads all.sizes) is in
-    subst (λ (after : Placed). Adds before after source) (same_ok _ after rest) (record { grown = grown.0; bases = refl; ends = grown.1 }))
+    subst (λ (after : Placed). Adds before after source) (same_read _ after rest) (record { grown = grown.0; bases = refl; ends = grown.1 }))
 
 -- ---- all libraries
 
@@ -182,10 +183,10 @@ pub record Follow (before after : Placed) (sources : List Source) : Type 0 where
 pub all_follow : (before after : Placed) (sources : List Source) → IsSound before.space → Each IsRead sources → steps place_library before sources ≡ Ok after → Follow before after sources
 unfolding steps
 all_follow before after [] sound read e =
-    subst (λ (after : Placed). Follow before after []) (same_ok before after e)
+    subst (λ (after : Placed). Follow before after []) (same_read before after e)
     (record { more = []; bases = sym (append-nil before.bases); grown = no_growth before.space sound; stand = omega arith })
 all_follow before after (source ∷ sources) sound read e =
-    went (place_library before source) (λ next. steps place_library next sources) after e (λ between is rest.
+    bind_then (place_library before source) (λ next. steps place_library next sources) after e (λ between is rest.
     let first : Adds before between source = library_adds before between source sound read.0 is in
     let later : Follow between after sources = all_follow between after sources first.grown.sound read.1 rest in
     record {
@@ -236,8 +237,8 @@ IsWhole base = base % 65536 ≡ 0
 pub library_whole : (before : Placed) (source : Source) (after : Placed) → Unit {0} → Each IsWhole before.bases → place_library before source ≡ Ok after → Each IsWhole after.bases
 unfolding place_library
 library_whole before source after any whole e =
-    went (place_loads source (base_for before.space) before.space) _ after e (λ space is rest.
-    subst (λ (after : Placed). Each IsWhole after.bases) (same_ok _ after rest) (each_pushed IsWhole before.bases (base_for before.space) whole (base_whole before.space)))
+    bind_then (place_loads source (base_for before.space) before.space) _ after e (λ space is rest.
+    subst (λ (after : Placed). Each IsWhole after.bases) (same_read _ after rest) (each_pushed IsWhole before.bases (base_for before.space) whole (base_whole before.space)))
 
 pub each_true : {A : Type 0} (xs : List A) → Each (λ x. Unit {0}) xs
 each_true [] = tt

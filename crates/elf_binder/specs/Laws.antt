@@ -1,21 +1,24 @@
 -- Laws of names.
 use Rattle.std.specs.Prelude.{◌≡◌, ℕ, ◌≤◌, ◌⊎◌, List, [], ◌∷◌, ◌++◌, All, Some, None}
 use Rattle.byte_view.specs.ElfSymbols.{Symbol}
+use Rattle.host_functions.specs.HostFunctions.{place_named}
 use Rattle.native_memory.specs.AddressSpace.{AddressSpace}
 use Rattle.native_memory.specs.Placement.{base_of}
 use Rattle.native_memory.specs.Sound.{IsSound}
-use Rattle.elf_binder.specs.Modules.{Module, exports_of, defined_in, address_of, host_address, named, library_named}
+use Rattle.elf_binder.specs.Modules.{Module, exports_of, defined_in, address_of, named, library_named}
 
 -- the first library that defines a name gives its address, whatever libraries stand after it
 abbrev pub FirstLibraryCounts : Type 0
 FirstLibraryCounts =
-    (before after : List Module) (m : Module) (name : List ℕ) (address : ℕ) → All (λ l. defined_in name l ≡ None) before
+    (before after : List Module) (m : Module) (name : List ℕ) (address : ℕ)
+    → All (λ l. defined_in name l ≡ None) before
     → defined_in name m ≡ Some address → address_of (before ++ m ∷ after) name ≡ Some address
 
 -- the address of a name that a library defines doesn't depend on the libraries after it
 abbrev pub NamesStayDefined : Type 0
 NamesStayDefined =
-    (before after : List Module) (m : Module) (name : List ℕ) (address : ℕ) → defined_in name m ≡ Some address
+    (before after : List Module) (m : Module) (name : List ℕ) (address : ℕ)
+    → defined_in name m ≡ Some address
     → address_of (before ++ m ∷ after) name ≡ address_of (before ++ m ∷ []) name
 
 -- the symbol is local, internal or hidden, or has no section
@@ -25,18 +28,23 @@ StaysInside s = (s.binding ≡ 0) ⊎ ((s.visibility ≡ 1) ⊎ ((s.visibility �
 -- such a symbol gives no name: without it the library exports the same
 abbrev pub InnerSymbolsExportNothing : Type 0
 InnerSymbolsExportNothing =
-    (base : ℕ) (before after : List Symbol) (s : Symbol) → StaysInside s → exports_of base (before ++ s ∷ after) ≡ exports_of base (before ++ after)
+    (base : ℕ) (before after : List Symbol) (s : Symbol) → StaysInside s
+    → exports_of base (before ++ s ∷ after) ≡ exports_of base (before ++ after)
 
--- an address at which a host function stands: it is that of one name, lies from 0x200 to 0x2C0, and is in no block
+-- an address at which a host function stands: it is that of one name, lies from 0x200 to 0x2C0,
+-- and is in no block
 pub record IsHostPlace (name : List ℕ) (address : ℕ) : Type 0 where
-  pub alone : (other : List ℕ) → host_address other ≡ Some address → other ≡ name
+  pub alone : (other : List ℕ) → place_named other ≡ Some address → other ≡ name
   pub least : 0x200 ≤ address
   pub most : address ≤ 0x2C0
   pub outside : (space : AddressSpace) → IsSound space → base_of space address ≡ None
 
 abbrev pub HostFunctionsLieApart : Type 0
-HostFunctionsLieApart = (name : List ℕ) (address : ℕ) → host_address name ≡ Some address → IsHostPlace name address
+HostFunctionsLieApart =
+    (name : List ℕ) (address : ℕ) → place_named name ≡ Some address → IsHostPlace name address
 
 -- a library of just a module's name is the module's, whatever other libraries are named
 abbrev pub OwnNamesComeFirst : Type 0
-OwnNamesComeFirst = (modules : List Module) (name : List ℕ) (number : ℕ) → named modules name ≡ Some number → library_named modules name ≡ Some number
+OwnNamesComeFirst =
+    (modules : List Module) (name : List ℕ) (number : ℕ) → named modules name ≡ Some number
+    → library_named modules name ≡ Some number

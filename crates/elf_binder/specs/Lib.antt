@@ -1,4 +1,4 @@
-pub mod Steps
+pub mod Unbound
 pub mod Modules
 pub mod Index
 pub mod Loading

@@ -1,5 +1,5 @@
 -- Loads are placed in memory (System V gABI, 'Program Loading').
-use Rattle.std.specs.Prelude.{ℕ, ◌+◌, ◌*◌, ◌/◌, ◌==◌, List, [], ◌∷◌, ◌++◌, take, drop, Result, Ok, if◌then◌else◌}
+use Rattle.std.specs.Prelude.{ℕ, ◌+◌, ◌*◌, ◌/◌, ◌==◌, List, [], ◌∷◌, ◌++◌, take, drop, Option, Result, Ok, if◌then◌else◌}
 use Rattle.std.specs.Option.{ok_or}
 use Rattle.bound_base.specs.declared.limits.Rights.{Rights}
 use Rattle.byte_view.specs.ElfLoads.{Load}
@@ -7,11 +7,13 @@ use Rattle.byte_view.specs.Library.{Library}
 use Rattle.byte_view.specs.ElfParts as parts
 use Rattle.native_memory.specs.AddressSpace.{AddressSpace}
 use Rattle.native_memory.specs.Placement.{placed_at}
-use Rattle.elf_binder.specs.Steps.{Unbound, ◌>>=◌, steps}
+use Rattle.byte_view.specs.Reading.{◌>>=◌, steps}
+use Rattle.elf_binder.specs.Unbound.{Unbound}
 
--- a library that is bound: its number, its file and what the file holds
+-- a library that is bound: its number, its name, its file and what the file holds
 pub record Source : Type 0 where
   pub number : ℕ
+  pub name : List ℕ
   pub file : List ℕ
   pub library : Library
 
@@ -26,12 +28,17 @@ rights_of load = record { r = load.readable; w = load.writable; x = load.executa
 abbrev pub bytes_of : List ℕ → Load → List ℕ
 bytes_of file load = take load.file_size (drop load.file_at file)
 
--- a load at its place from the base; where there is no room its memory size is refused. One of no bytes places no block
+-- a load of some bytes at its address from the base, if there is room for it
+abbrev pub placing : Source → ℕ → AddressSpace → Load → Option AddressSpace
+placing source base space load =
+    placed_at space (base + load.vaddr) (bytes_of source.file load) load.size (rights_of load)
+
+-- a load at its address from the base; where there is no room its memory size is refused. One of
+-- no bytes places no block
 unfoldable pub place_load : Source → ℕ → AddressSpace → Load → Result AddressSpace Unbound
 place_load source base space load =
     if load.size == 0 then Ok space
-    else ok_or (placed_at space (base + load.vaddr) (bytes_of source.file load) load.size (rights_of load))
-    (source.number, parts.load, load.at + 40)
+    else ok_or (placing source base space load) (source.number, parts.load, load.at + 40)
 
 -- the loads of a library, in order
 unfoldable pub place_loads : Source → ℕ → AddressSpace → Result AddressSpace Unbound

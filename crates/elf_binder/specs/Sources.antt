@@ -8,7 +8,12 @@ use Rattle.elf_binder.specs.Loading as loading
 use Rattle.elf_binder.specs.declared.source.Source.{Source}
 
 abbrev pub source_of : Source → loading.Source
-source_of source = record { number = source.number; file = source.file.now; library = library_of source.elf.now }
+source_of source = record {
+  number = source.number;
+  name = source.name.now;
+  file = source.file.now;
+  library = library_of source.elf.now;
+}
 
 -- the library was read from its file
 abbrev pub IsRead : loading.Source → Type 0

@@ -3,10 +3,10 @@
 ghost use Rattle.std.specs.Prelude.{◌≡◌, ◌≤◌, length};
 ghost use Rattle.elf_binder.specs.Modules.{library_named, symbol_in};
 
-use crate::host_names::host_address;
 use crate::library_names::{first_spelled, is_built_in};
 use crate::module::Module;
 use bound_base::Items;
+use host_functions::place_named;
 use std::marker::Model;
 
 /// Libraries in memory, at most 16, and their initializers.
@@ -53,7 +53,7 @@ impl Bound {
         ensures { result ≡ symbol_in self.now.modules library name.now }
     {
         if library as usize == self.modules.len() {
-            return host_address(name);
+            return place_named(name);
         }
         self.modules.get(library as usize)?.callable(name)
     }

@@ -1,8 +1,9 @@
 //! The initializers of libraries (System V gABI, 'Initialization and Termination Functions').
 
 ghost use Rattle.std.specs.Prelude.{◌≡◌, [], ◌∷◌, ◌++◌, filter, OnOk};
+ghost use Rattle.byte_view.specs.Reading.{Reads};
 ghost use Rattle.elf_binder.specs.Binding.{doublewords, is_initializer, first_initializer, and_initializers};
-ghost use Rattle.elf_binder.specs.Refusals.{Gives};
+ghost use Rattle.elf_binder.specs.Refusals.{refusal};
 ghost use Rattle.elf_binder.specs.Sources.{source_of, IsRead};
 
 use crate::refusal::BindBad;
@@ -22,7 +23,8 @@ pub fn add_initializers(
     inits: &mut Items<u64>,
 ) -> Result<(), BindBad>
     requires { IsRead (source_of source.now) }
-    ensures { Gives (λ _. inits.new) result (and_initializers memory.now inits.old (source_of source.now, base)) }
+    ensures { Reads refusal (λ _. inits.new) result
+        (and_initializers memory.now.space inits.old (source_of source.now, base)) }
 {
     let (addr, size) = source.elf.init_array;
     let Some(array) = memory.contents(base.wrapping_add(addr), size) else {

@@ -5,7 +5,6 @@
 mod binding;
 mod binding_laws;
 mod bound;
-mod host_names;
 mod index;
 mod initializers;
 mod laws;
@@ -26,7 +25,6 @@ pub use binding_laws::{
     bases_are_whole, binding_keeps_older_bytes, libraries_lie_apart, relocations_stay_inside,
 };
 pub use bound::Bound;
-pub use host_names::host_address;
 pub use laws::{
     first_library_counts, host_functions_lie_apart, inner_symbols_export_nothing,
     names_stay_defined, own_names_come_first,
@@ -34,8 +32,3 @@ pub use laws::{
 pub use module::{Export, Module, is_defined};
 pub use refusal::BindBad;
 pub use scope::address_of;
-
-#[cfg(test)]
-mod binding_tests;
-#[cfg(test)]
-mod tests;

@@ -1,17 +1,17 @@
 //! Places libraries in memory (System V gABI, 'Program Loading').
 
-ghost use Rattle.std.specs.Prelude.{◌≡◌, ◌+◌, ◌<◌, ◌≤◌, ◌^◌, length, map, All, IfOk};
+ghost use Rattle.std.specs.Prelude.{◌≡◌, ◌+◌, ◌<◌, ◌≤◌, ◌^◌, length, All, IfOk, IfErr, IsSome};
 ghost use Rattle.byte_view.specs.ElfLoads.{end_of};
-ghost use Rattle.elf_reader.specs.Elf.{load_of, library_of};
-ghost use Rattle.elf_binder.specs.Binding.{sources_from};
-ghost use Rattle.elf_binder.specs.Loading.{base_for, place_load, place_loads, place_library, place_all};
-ghost use Rattle.elf_binder.specs.Refusals.{AreRead, Gives};
+ghost use Rattle.byte_view.specs.Reading.{Reads};
+ghost use Rattle.elf_reader.specs.Elf.{load_of};
+ghost use Rattle.elf_binder.specs.Loading.{base_for, placing, place_load, place_loads, place_library, place_all};
+ghost use Rattle.elf_binder.specs.Refusals.{refusal};
 ghost use Rattle.elf_binder.specs.Sources.{source_of, IsRead};
 
 use crate::refusal::BindBad;
-use crate::source::{Source, broken, source_at};
-use bound_base::{Bytes, Items};
-use elf_reader::{Elf, ElfPart, Load};
+use crate::source::{Source, Sources, broken};
+use bound_base::Items;
+use elf_reader::{ElfPart, Load};
 use native_memory::{Memory, PlaceBad};
 use std::alloc::Global;
 
@@ -20,20 +20,19 @@ use std::alloc::Global;
 /// The refusal is that of the first load for which there is no room, at the field of its size in memory.
 pub fn place_all(
     alloc: Global,
-    elfs: &[Elf],
-    files: &[Bytes],
+    sources: &Sources<'_>,
     memory: &mut Memory,
 ) -> Result<Items<u64>, BindBad>
-    requires files { length files.now ≡ length elfs.now }
-    requires few { length elfs.now < 2 ^ 32 }
-    requires read { AreRead elfs.now files.now }
-    ensures placed { Gives (λ bases. record { bases = bases; space = memory.new }) result (place_all memory.old (sources_from 0 files.now (map library_of elfs.now))) }
-    ensures count { IfOk result (λ bases. length bases ≡ length elfs.now) }
+    requires { All IsRead sources.now }
+    ensures placed { Reads refusal (λ bases. record { bases = bases; space = memory.new.space })
+        result (place_all memory.old.space sources.now) }
+    ensures count { IfOk result (λ bases. length bases ≡ length sources.now) }
     ensures low { IfOk result (λ bases. All (λ base. base ≤ 2 ^ 46) bases) }
 {
     let mut bases = Items::new(alloc);
-    for number in 0..elfs.len() {
-        let source = source_at(elfs, files, number);
+    let count = sources.len();
+    for number in 0..count {
+        let source = sources.at(number);
         place_library(&source, &mut bases, memory)?;
     }
     Ok(bases)
@@ -46,9 +45,12 @@ fn place_library(
     memory: &mut Memory,
 ) -> Result<(), BindBad>
     requires { IsRead (source_of source.now) }
-    ensures placed { Gives (λ _. record { bases = bases.new; space = memory.new }) result (place_library (record { bases = bases.old; space = memory.old }) (source_of source.now)) }
+    ensures placed { Reads refusal (λ _. record { bases = bases.new; space = memory.new.space })
+        result (place_library (record { bases = bases.old; space = memory.old.space })
+        (source_of source.now)) }
     ensures count { IfOk result (λ _. length bases.new ≡ length bases.old + 1) }
-    ensures low { All (λ base. base ≤ 2 ^ 46) bases.old → IfOk result (λ _. All (λ base. base ≤ 2 ^ 46) bases.new) }
+    ensures low { All (λ base. base ≤ 2 ^ 46) bases.old
+        → IfOk result (λ _. All (λ base. base ≤ 2 ^ 46) bases.new) }
 {
     let base = base_for(memory);
     place_loads(source, base, memory)?;
@@ -58,8 +60,8 @@ fn place_library(
 
 /// The base of the next library: the least multiple of 65,536 that isn't below the next address.
 fn base_for(memory: &Memory) -> u64
-    ensures base { result ≡ base_for memory.now }
-    ensures behind { memory.now.edge ≤ result }
+    ensures base { result ≡ base_for memory.now.space }
+    ensures after { memory.now.space.edge ≤ result }
     ensures low { result ≤ 2 ^ 46 }
 {
     memory.blocks_lie_apart();
@@ -70,8 +72,9 @@ fn base_for(memory: &Memory) -> u64
 fn place_loads(source: &Source<'_>, base: u64, memory: &mut Memory) -> Result<(), BindBad>
     requires read { IsRead (source_of source.now) }
     requires low { base ≤ 2 ^ 46 }
-    requires behind { memory.old.edge ≤ base }
-    ensures { Gives (λ _. memory.new) result (place_loads (source_of source.now) base memory.old) }
+    requires after { memory.old.space.edge ≤ base }
+    ensures { Reads refusal (λ _. memory.new.space) result
+        (place_loads (source_of source.now) base memory.old.space) }
 {
     for load in source.elf.loads.as_slice() {
         place_load(source, base, load, memory)?;
@@ -79,7 +82,8 @@ fn place_loads(source: &Source<'_>, base: u64, memory: &mut Memory) -> Result<()
     Ok(())
 }
 
-/// Places one load. Behind its bytes of the file stand zeros; a load of no bytes places no block.
+/// Places one load. Zeros follow its bytes of the file; a load of no bytes places no block. It wants memory only where there
+/// is room for the block.
 fn place_load(
     source: &Source<'_>,
     base: u64,
@@ -91,8 +95,11 @@ fn place_load(
     requires file { load.now.file_at + load.now.file_size ≤ length source.now.file.now }
     requires sizes { load.now.file_size ≤ load.now.size }
     requires end { end_of (load_of load.now) < 2 ^ 32 }
-    requires behind { memory.old.edge ≤ base + load.now.vaddr }
-    ensures { Gives (λ _. memory.new) result (place_load (source_of source.now) base memory.old (load_of load.now)) }
+    requires after { memory.old.space.edge ≤ base + load.now.vaddr }
+    ensures placed { Reads refusal (λ _. memory.new.space) result
+        (place_load (source_of source.now) base memory.old.space (load_of load.now)) }
+    ensures memory { IfErr result (λ bad. bad ≡ BindBad.Memory
+        → IsSome (placing (source_of source.now) base memory.old.space (load_of load.now))) }
 {
     if load.size == 0 {
         return Ok(());

@@ -25,7 +25,7 @@ pub struct Export {
 pub struct Module {
     name: Bytes,
     exports: Items<Export>,
-    /// The places of the exports in order of their names, those of one name in the order of the exports.
+    /// The indexes of the exports in order of their names, those of one name in the order of the exports.
     by_name: Items<usize>,
     /// The same of the exports that may be called.
     callable_by_name: Items<usize>,
@@ -37,11 +37,12 @@ impl Model for Module {
 
     ghost Value = { modules.Module };
 
-    ghost use Rattle.elf_binder.specs.Index.{IsIndex};
+    ghost use Rattle.elf_binder.specs.Index.{IsByName};
 
     ghost view = { λ m. record { name = m.name; exports = m.exports } };
 
-    ghost invariant = { λ m. IsIndex false m.exports m.by_name × IsIndex true m.exports m.callable_by_name };
+    ghost invariant = { λ m. IsByName false m.exports m.by_name
+        × IsByName true m.exports m.callable_by_name };
 }
 
 impl Module {
@@ -52,7 +53,8 @@ impl Module {
         base: u64,
         symbols: &[Symbol],
     ) -> Result<Module, NoMemory>
-        ensures { IfOk result (λ m. m ≡ record { name = name.now; exports = exports_of base (map symbol_of symbols.now) }) }
+        ensures { IfOk result (λ m. m
+            ≡ record { name = name.now; exports = exports_of base (map symbol_of symbols.now) }) }
     {
         let name = Items::from_vec(name.to_vec(alloc)?);
         let exports = exports(alloc, base, symbols)?;

@@ -3,9 +3,10 @@
 ghost use Rattle.std.specs.Prelude.{◌≡◌, ◌+◌, ◌<◌, ◌≤◌, ◌%◌, ◌^◌, length, Some, None, OnOk, OnErr};
 ghost use Rattle.std.specs.Int.{w64, cast_unsigned};
 ghost use Rattle.native_memory.specs.Ranges.{written_at};
+ghost use Rattle.byte_view.specs.Reading.{Reads};
 ghost use Rattle.elf_reader.specs.Elf.{relocation_of};
 ghost use Rattle.elf_binder.specs.Relocating.{width_of, bytes_for, write_relocation, relocate, relocate_library};
-ghost use Rattle.elf_binder.specs.Refusals.{Gives};
+ghost use Rattle.elf_binder.specs.Refusals.{refusal};
 ghost use Rattle.elf_binder.specs.Sources.{source_of, IsRead};
 
 use crate::module::Module;
@@ -26,7 +27,8 @@ pub fn relocate_library(
 ) -> Result<(), BindBad>
     requires read { IsRead (source_of source.now) }
     requires low { base ≤ 2 ^ 46 }
-    ensures { Gives (λ _. memory.new) result (relocate_library modules.now memory.old (source_of source.now, base)) }
+    ensures { Reads refusal (λ _. memory.new.space) result
+        (relocate_library modules.now memory.old.space (source_of source.now, base)) }
 {
     for r in source.elf.relocs.as_slice() {
         relocate(modules, source, base, r, memory)?;
@@ -45,7 +47,8 @@ fn relocate(
     requires read { IsRead (source_of source.now) }
     requires low { base ≤ 2 ^ 46 }
     requires entry { r.now.at + 24 ≤ length source.now.file.now }
-    ensures { Gives (λ _. memory.new) result (relocate modules.now (source_of source.now) base memory.old (relocation_of r.now)) }
+    ensures { Reads refusal (λ _. memory.new.space) result
+        (relocate modules.now (source_of source.now) base memory.old.space (relocation_of r.now)) }
 {
     let Some(kind) = Kind::of(r.kind) else {
         return Err(broken(source, ElfPart::RelocType, r.at + 8));
@@ -69,7 +72,9 @@ fn write_relocation(
     requires low { base ≤ 2 ^ 46 }
     requires entry { r.now.at + 24 ≤ length source.now.file.now }
     requires some { 0 < width_of kind }
-    ensures { Gives (λ _. memory.new) result (write_relocation modules.now (source_of source.now) base memory.old (relocation_of r.now) kind) }
+    ensures { Reads refusal (λ _. memory.new.space) result
+        (write_relocation modules.now (source_of source.now) base memory.old.space
+        (relocation_of r.now) kind) }
 {
     if !is_writable(source, r.offset, kind.width()) {
         return Err(broken(source, ElfPart::RelocTarget, r.at));
@@ -99,8 +104,10 @@ fn write_value(
     symbol: u64,
     addend: u64,
 ) -> Result<(), Fault>
-    ensures ok { OnOk result (written_at memory.old addr (bytes_for kind base symbol addend) ≡ Some memory.new) }
-    ensures err { OnErr result (written_at memory.old addr (bytes_for kind base symbol addend) ≡ None) }
+    ensures ok { OnOk result (written_at memory.old.space addr
+        (bytes_for kind base symbol addend) ≡ Some memory.new.space) }
+    ensures err { OnErr result (written_at memory.old.space addr
+        (bytes_for kind base symbol addend) ≡ None) }
 {
     let sum = symbol.wrapping_add(addend);
     match kind {

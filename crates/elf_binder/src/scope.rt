@@ -3,8 +3,8 @@
 ghost use Rattle.std.specs.Prelude.{◌≡◌};
 ghost use Rattle.elf_binder.specs.Modules.{address_of as address_in_scope};
 
-use crate::host_names::host_address;
 use crate::module::Module;
+use host_functions::place_named;
 
 /// The address of a name: the first library that defines it counts, and after the libraries come the host functions.
 pub fn address_of(modules: &[Module], name: &[u8]) -> Option<u64>
@@ -15,5 +15,5 @@ pub fn address_of(modules: &[Module], name: &[u8]) -> Option<u64>
             return Some(address);
         }
     }
-    host_address(name)
+    place_named(name)
 }

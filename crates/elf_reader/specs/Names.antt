@@ -1,7 +1,8 @@
 -- The zeros at which names end.
 use Rattle.std.specs.Prelude.{◌≡◌, ℕ, ◌+◌, ◌*◌, ◌/◌, ◌<◌, ◌≤◌, List, length, slice_index}
 
--- the first zero of some bytes from an index on stands at another, which is their end where there is none
+-- the first zero of some bytes from an index on stands at another, which is their end where
+-- there is none
 pub record IsFirstZero (bytes : List ℕ) (at zero : ℕ) : Type 0 where
   pub from : at ≤ zero
   pub within : zero ≤ length bytes

@@ -65,12 +65,13 @@ PartsAreWhereDefined =
 abbrev pub broken_part : Broken → Option reading.Broken
 broken_part broken = Some (part_place broken.part, broken.at)
 
--- what an error says: the place of the part that is broken, and the file offset; want of memory says
--- nothing
+-- what an error says: the place of the part that is broken, and the file offset; want of memory
+-- says nothing
 abbrev pub refusal : ElfBad → Option reading.Broken
 refusal (BadElf part at) = Some (part_place part, at)
 refusal Memory = None
 
--- `Reads` of the readers' vocabulary at this crate's errors, for crates above that haven't moved over
+-- `Reads` of the readers' vocabulary at this crate's errors, for crates above that haven't moved
+-- over
 abbrev pub Reads : {X Y : Type 0} → (X → Y) → Result X ElfBad → Result Y reading.Broken → Type 0
 Reads view result read = reading.Reads refusal view result read

@@ -9,5 +9,5 @@ pub returns : goal.returns
 returns c =
     IsPartitionPoint-from_clause (λ (place : ℕ). is_lt (compared c.args.exports.now c.args.name.now place)) _ _
     c.partition_point.ensures.partitioned
-    (names_parted c.args.exports.now c.args.places.now c.args.name.now c.requires)
+    (names_parted c.args.exports.now c.args.indexes.now c.args.name.now c.requires)
     (λ a r q k. (k.met.1, λ i. (k.met.0.0 i, k.met.0.1 i)))

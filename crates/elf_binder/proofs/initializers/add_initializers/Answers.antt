@@ -13,9 +13,9 @@ overflow_add-source c =
 
 pub returns-in_default : goal.returns-in_default
 returns-in_default c =
-    rw c.broken.ensures (not_readable c.args.memory.now c.args.inits.now (source_of c.args.source.now) c.args.base (sym c.in_default.ensures.value))
+    rw c.broken.ensures (not_readable c.args.memory.now.space c.args.inits.now (source_of c.args.source.now) c.args.base (sym c.in_default.ensures.value))
 
 pub returns : goal.returns
 returns c =
-    all_initials c.args.memory.now c.args.inits.now (source_of c.args.source.now) c.args.base c.in-Some.array.now c.add_first.new.inits c.add_array.new.inits (sym c.in-Some.ensures.value) c.in_ok-add_first.ensures
+    all_initials c.args.memory.now.space c.args.inits.now (source_of c.args.source.now) c.args.base c.in-Some.array.now c.add_first.new.inits c.add_array.new.inits (sym c.in-Some.ensures.value) c.in_ok-add_first.ensures
     c.in_ok-add_array.ensures

@@ -1,17 +1,18 @@
 use Rattle.std.proofs.lemmas.Result.{err_from_is_err_and}
 use Rattle.elf_binder.specs.Sources.{source_of}
 use Rattle.elf_binder.proofs.Placing.{library_placed, library_fails}
-use Rattle.elf_binder.proofs.Refusing.{refused}
+use Rattle.byte_view.proofs.Refusals.{refuses_as}
+use Rattle.elf_binder.specs.Refusals.{refusal}
 use Rattle.elf_binder.proofs.loading.place_library.Goals as goal
 
 pub returns-in_err-place_loads-clause-placed : goal.returns-in_err-place_loads-clause-placed
 returns-in_err-place_loads-clause-placed c =
     let p = err_from_is_err_and c.from_residual.result c.from_residual.ensures.1 in
     rw (p.1, p.2)
-    (refused c.in_err-place_loads.field-0.0 _ _ (λ d fails. library_fails c.args.bases.now c.args.memory.now (source_of c.args.source.now) c.base_for-base.result d c.base_for-base.ensures.base fails)
+    (refuses_as refusal c.in_err-place_loads.field-0.0 _ _ (λ d fails. library_fails c.args.bases.now c.args.memory.now.space (source_of c.args.source.now) c.base_for-base.result d c.base_for-base.ensures.base fails)
     c.in_err-place_loads.ensures)
 
 pub returns-clause-placed : goal.returns-clause-placed
 returns-clause-placed c =
-    library_placed c.args.bases.now c.args.memory.now (source_of c.args.source.now) c.base_for-base.result c.place_loads.new.memory c.push.new.self c.base_for-base.ensures.base c.in_ok-place_loads.ensures
+    library_placed c.args.bases.now c.args.memory.now.space (source_of c.args.source.now) c.base_for-base.result c.place_loads.new.memory.space c.push.new.self c.base_for-base.ensures.base c.in_ok-place_loads.ensures
     c.in_ok-push.ensures.ok

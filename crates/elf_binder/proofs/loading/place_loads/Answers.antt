@@ -4,15 +4,16 @@ use Rattle.std.proofs.lemmas.Result.{err_from_is_err_and}
 use Rattle.elf_reader.specs.Elf.{load_of}
 use Rattle.elf_binder.specs.Loading.{place_load, place_loads}
 use Rattle.elf_binder.specs.Sources.{source_of}
-use Rattle.elf_binder.proofs.Refusing.{refused}
+use Rattle.byte_view.proofs.Refusals.{refuses_as}
+use Rattle.elf_binder.specs.Refusals.{refusal}
 use Rattle.elf_binder.proofs.StepByStep.{none_yet, one_more, it_fails, all_done}
 use Rattle.elf_binder.proofs.LoadPlaces.{no_load, load_is, stands, all_behind, next_behind}
 use Rattle.elf_binder.proofs.loading.place_loads.Goals as goal
 
 pub loop-load-init : goal.loop-load-init
 loop-load-init c = record {
-  came = none_yet (place_load (source_of c.args.source.now) c.args.base) c.args.memory.now (map load_of c.args.source.now.elf.now.loads);
-  behind = all_behind (map load_of c.args.source.now.elf.now.loads) c.args.base c.args.memory.now.edge c.requires.behind;
+  came = none_yet (place_load (source_of c.args.source.now) c.args.base) c.args.memory.now.space (map load_of c.args.source.now.elf.now.loads);
+  behind = all_behind (map load_of c.args.source.now.elf.now.loads) c.args.base c.args.memory.now.space.edge c.requires.after;
 }
 
 pub place_load-requires : goal.place_load-requires
@@ -27,7 +28,7 @@ place_load-requires c =
       file = at.file;
       sizes = at.sizes;
       end = at.low;
-      behind = c.loop-load.invariant.behind.all c.loop-load.load-index load (omega arith) is;
+      after = c.loop-load.invariant.behind.all c.loop-load.load-index load (omega arith) is;
     }
 
 pub returns-in_err-place_load : goal.returns-in_err-place_load
@@ -38,8 +39,8 @@ returns-in_err-place_load c =
     let load = load_of (get_or loads c.loop-load.load-index no_load) in
     let is = load_is loads c.args.source.now.elf.now.loads c.loop-load.load-index c.as_slice-load-items.ensures c.loop-load-test.true in
     rw (p.1, p.2)
-    (refused c.in_err-place_load.field-0.0 _ _ (λ d fails. it_fails (place_load (source_of c.args.source.now) c.args.base) c.args.memory.now (map load_of c.args.source.now.elf.now.loads) c.loop-load.memory
-    c.loop-load.load-index load d c.loop-load.invariant.came is fails) c.in_err-place_load.ensures)
+    (refuses_as refusal c.in_err-place_load.field-0.0 _ _ (λ d fails. it_fails (place_load (source_of c.args.source.now) c.args.base) c.args.memory.now.space (map load_of c.args.source.now.elf.now.loads) c.loop-load.memory.space
+    c.loop-load.load-index load d c.loop-load.invariant.came is fails) c.in_err-place_load.ensures.placed)
 
 pub loop-load-preserved : goal.loop-load-preserved
 loop-load-preserved c =
@@ -47,13 +48,13 @@ loop-load-preserved c =
     let load = load_of (get_or loads c.loop-load.load-index no_load) in
     let is = load_is loads c.args.source.now.elf.now.loads c.loop-load.load-index c.as_slice-load-items.ensures c.loop-load-test.true in
     record {
-      came = one_more (place_load (source_of c.args.source.now) c.args.base) c.args.memory.now (map load_of c.args.source.now.elf.now.loads) c.loop-load.memory c.loop-load.load-index load c.place_load.new.memory
-          c.loop-load.invariant.came is c.in_ok-place_load.ensures;
-      behind = next_behind (source_of c.args.source.now) c.args.base c.loop-load.memory c.place_load.new.memory c.loop-load.load-index load c.requires.read is c.in_ok-place_load.ensures c.loop-load.invariant.behind;
+      came = one_more (place_load (source_of c.args.source.now) c.args.base) c.args.memory.now.space (map load_of c.args.source.now.elf.now.loads) c.loop-load.memory.space c.loop-load.load-index load c.place_load.new.memory.space
+          c.loop-load.invariant.came is c.in_ok-place_load.ensures.placed;
+      behind = next_behind (source_of c.args.source.now) c.args.base c.loop-load.memory.space c.place_load.new.memory.space c.loop-load.load-index load c.requires.read is c.in_ok-place_load.ensures.placed c.loop-load.invariant.behind;
     }
 
 pub returns : goal.returns
 unfolding place_loads
 returns c =
     let all : length (map load_of c.args.source.now.elf.now.loads) ≤ c.loop-load.load-index = rw (length-map, ← c.as_slice-load-items.ensures) c.loop-load-test.false in
-    all_done (place_load (source_of c.args.source.now) c.args.base) c.args.memory.now (map load_of c.args.source.now.elf.now.loads) c.loop-load.memory c.loop-load.load-index c.loop-load.invariant.came all
+    all_done (place_load (source_of c.args.source.now) c.args.base) c.args.memory.now.space (map load_of c.args.source.now.elf.now.loads) c.loop-load.memory.space c.loop-load.load-index c.loop-load.invariant.came all

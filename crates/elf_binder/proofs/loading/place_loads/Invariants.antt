@@ -8,6 +8,6 @@ use Rattle.elf_binder.proofs.loading.place_loads.Given as goal
 
 abbrev pub invariant-loop-load : goal.invariant-loop-load
 invariant-loop-load l = record {
-  came : Came (place_load (source_of l.source) l.base) l.initial.memory (map load_of l.source.elf.now.loads) l.memory l.load-index;
-  behind : Behind (map load_of l.source.elf.now.loads) l.base l.memory.edge l.load-index;
+  came : Came (place_load (source_of l.source) l.base) l.initial.memory.space (map load_of l.source.elf.now.loads) l.memory.space l.load-index;
+  behind : Behind (map load_of l.source.elf.now.loads) l.base l.memory.space.edge l.load-index;
 }

@@ -9,7 +9,7 @@ pub returns-then-not-is_writable : goal.returns-then-not-is_writable
 returns-then-not-is_writable c =
     let target : is_writable (map load_of c.args.source.now.elf.now.loads) c.args.r.now.offset (width_of c.args.kind) ≡ false =
     rw (← c.width.ensures) (sym c.is_writable.ensures ∙ c.if-not-is_writable.true) in
-    rw c.broken.ensures (no_target c.args.modules.now (source_of c.args.source.now) c.args.base c.args.memory.now (relocation_of c.args.r.now) c.args.kind target)
+    rw c.broken.ensures (no_target c.args.modules.now (source_of c.args.source.now) c.args.base c.args.memory.now.space (relocation_of c.args.r.now) c.args.kind target)
 
 pub returns-in_default : goal.returns-in_default
 returns-in_default c =
@@ -17,7 +17,7 @@ returns-in_default c =
     rw (← c.width.ensures) (sym c.is_writable.ensures ∙ c.if-not-is_writable.false) in
     let value : value_for c.args.modules.now (map symbol_of c.args.source.now.elf.now.symbols) c.args.kind c.args.r.now.symbol ≡ None =
     rw (← c.as_slice.ensures) (sym c.value_for.ensures ∙ c.in_default.is) in
-    rw c.broken-in_default.ensures (unresolved c.args.modules.now (source_of c.args.source.now) c.args.base c.args.memory.now (relocation_of c.args.r.now) c.args.kind target value)
+    rw c.broken-in_default.ensures (unresolved c.args.modules.now (source_of c.args.source.now) c.args.base c.args.memory.now.space (relocation_of c.args.r.now) c.args.kind target value)
 
 pub overflow_add-base : goal.overflow_add-base
 overflow_add-base c =
@@ -32,7 +32,7 @@ returns-in-Ok c =
     rw (← c.width.ensures) (sym c.is_writable.ensures ∙ c.if-not-is_writable.false) in
     let value : value_for c.args.modules.now (map symbol_of c.args.source.now.elf.now.symbols) c.args.kind c.args.r.now.symbol ≡ Some c.in-Some.symbol =
     rw (← c.as_slice.ensures) (sym c.value_for.ensures ∙ c.in-Some.is) in
-    written c.args.modules.now (source_of c.args.source.now) c.args.base c.args.memory.now (relocation_of c.args.r.now) c.args.kind c.in-Some.symbol c.write_value.new.memory target value
+    written c.args.modules.now (source_of c.args.source.now) c.args.base c.args.memory.now.space (relocation_of c.args.r.now) c.args.kind c.in-Some.symbol c.write_value.new.memory.space target value
     (rw (← c.addend_bits.ensures) c.in-Ok.ensures.ok)
 
 pub returns-in-Err : goal.returns-in-Err
@@ -42,5 +42,5 @@ returns-in-Err c =
     let value : value_for c.args.modules.now (map symbol_of c.args.source.now.elf.now.symbols) c.args.kind c.args.r.now.symbol ≡ Some c.in-Some.symbol =
     rw (← c.as_slice.ensures) (sym c.value_for.ensures ∙ c.in-Some.is) in
     rw c.broken-in-Err.ensures
-    (not_written c.args.modules.now (source_of c.args.source.now) c.args.base c.args.memory.now (relocation_of c.args.r.now) c.args.kind c.in-Some.symbol target value
+    (not_written c.args.modules.now (source_of c.args.source.now) c.args.base c.args.memory.now.space (relocation_of c.args.r.now) c.args.kind c.in-Some.symbol target value
     (rw (← c.addend_bits.ensures) c.in-Err.ensures.err))

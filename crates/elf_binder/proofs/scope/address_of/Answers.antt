@@ -14,6 +14,6 @@ loop-module-preserved c =
 
 pub returns : goal.returns
 returns c =
-    c.host_address.ensures
+    c.place_named.ensures
     ∙ sym (past_all c.args.modules.now c.args.name.now c.loop-module.module-index c.loop-module-test.false)
     ∙ c.loop-module.invariant
