@@ -15,6 +15,3 @@ pub use meta::{Meta, read_meta};
 pub use table_names::{
     IMPL_MAP, IMPL_MAP_IMPORT_NAME, IMPL_MAP_IMPORT_SCOPE, MODULE_REF, MODULE_REF_NAME,
 };
-
-#[cfg(test)]
-mod tests;

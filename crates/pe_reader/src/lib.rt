@@ -10,6 +10,3 @@ mod sections;
 pub use addresses::{at_rva, rest_at};
 pub use headers::{Pe, read_pe};
 pub use sections::{Section, Sections};
-
-#[cfg(test)]
-mod tests;

@@ -1,0 +1,124 @@
+//! Reads cases, one a line of stdin, and prints what `pe_reader` and `meta_tables` answer. A line is a verb and its words;
+//! bytes and tables are in hexadecimal, other numbers in decimal. A line that has none of the verbs is printed as it is.
+#![tactic(auto)]
+
+mod headers;
+mod hexadecimal;
+mod metadata;
+
+use headers::{print_bytes_at, print_headers, print_rest_at};
+use hexadecimal::{bytes_of, put_over};
+use metadata::{
+    print_blob, print_metadata, print_row, print_row_place, print_rows, print_string,
+    print_user_string,
+};
+use std::alloc::Global;
+use std::io::{BufRead, BufReader};
+
+/// What the cases so far have made: a file, and the range of its metadata.
+#[derive(Drop)]
+struct Case {
+    file: Vec<u8>,
+    at: u64,
+    size: u32,
+}
+
+fn main(rt: HostRuntime) -> anyhow::Result<()> {
+    let mut case = Case {
+        file: Vec::new(rt.alloc()),
+        at: 0,
+        size: 0,
+    };
+    for line in BufReader::new(rt.alloc(), rt.reader())?.lines(rt.alloc()) {
+        let line = line?;
+        let words: Vec<&str> = line.split_whitespace().collect(rt.alloc())?;
+        if !change(rt.alloc(), &mut case, &words)? && !ask_headers(&rt, &case, &words)? {
+            ask_metadata(&rt, &case, &words, line.as_str())?;
+        }
+    }
+    Ok(())
+}
+
+/// Changes the file or the range where the verb does, and tells whether it does.
+fn change(alloc: Global, case: &mut Case, words: &[&str]) -> anyhow::Result<bool> {
+    match *words {
+        ["zeros", len] => case.file = vec![in alloc; 0u8; len.parse::<usize>()?]?,
+        ["put", at, bytes] => {
+            let piece = bytes_of(alloc, bytes)?;
+            put_over(&mut case.file, at.parse::<usize>()?, &piece);
+        }
+        ["cut", len] => case.file.truncate(len.parse::<usize>()?),
+        ["range", at, size] => {
+            case.at = at.parse::<u64>()?;
+            case.size = size.parse::<u32>()?;
+        }
+        _ => return Ok(false),
+    }
+    Ok(true)
+}
+
+/// Prints what is read of the headers where the verb asks for that, and tells whether it does.
+fn ask_headers(
+    rt: &(impl Print + AllocGlobal),
+    case: &Case,
+    words: &[&str],
+) -> anyhow::Result<bool> {
+    match *words {
+        ["headers"] => print_headers(rt, &case.file)?,
+        ["headers_with", at, bytes] => {
+            let file = patched(rt.alloc(), &case.file, at, bytes)?;
+            print_headers(rt, &file)?;
+        }
+        ["bytes", rva, len] => {
+            print_bytes_at(rt, &case.file, rva.parse::<u32>()?, len.parse::<u32>()?)?;
+        }
+        ["rest", rva] => print_rest_at(rt, &case.file, rva.parse::<u32>()?)?,
+        _ => return Ok(false),
+    }
+    Ok(true)
+}
+
+/// Prints what is read of the metadata, or the line where the verb is none.
+fn ask_metadata(
+    rt: &(impl Print + AllocGlobal),
+    case: &Case,
+    words: &[&str],
+    line: &str,
+) -> anyhow::Result<()> {
+    let file = &case.file;
+    let (at, size) = (case.at, case.size);
+    match *words {
+        ["metadata"] => print_metadata(rt, file, at, size)?,
+        ["metadata_with", place, bytes] => {
+            let file = patched(rt.alloc(), file, place, bytes)?;
+            print_metadata(rt, &file, at, size)?;
+        }
+        ["rows", table] => print_rows(rt, file, at, size, table_of(table)?)?,
+        ["row", table, n] => {
+            print_row(rt, file, at, size, table_of(table)?, n.parse::<u32>()?)?;
+        }
+        ["place", table, n] => {
+            print_row_place(rt, file, at, size, table_of(table)?, n.parse::<u32>()?)?;
+        }
+        ["string", offset] => print_string(rt, file, at, size, offset.parse::<u32>()?)?,
+        ["blob", offset] => print_blob(rt, file, at, size, offset.parse::<u32>()?)?,
+        ["user_string", offset] => {
+            print_user_string(rt, file, at, size, offset.parse::<u32>()?)?;
+        }
+        _ => println!(rt; "{line}")?,
+    }
+    Ok(())
+}
+
+/// A table's number, in hexadecimal.
+fn table_of(word: &str) -> anyhow::Result<u8> {
+    Ok(u8::from_str_radix(word, 16)?)
+}
+
+/// A file with other bytes at a place.
+fn patched(alloc: Global, file: &[u8], at: &str, bytes: &str) -> anyhow::Result<Vec<u8>> {
+    let piece = bytes_of(alloc, bytes)?;
+    let mut copy = file.to_vec(alloc)?;
+    put_over(&mut copy, at.parse::<usize>()?, &piece);
+    Ok(copy)
+}
