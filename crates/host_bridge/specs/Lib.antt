@@ -1,7 +1,4 @@
 pub mod Places
-pub mod Entry
-pub mod NativeCode
-pub mod Turns
-pub mod NativeRun
-pub mod Runs
+pub mod SymbolRun
+pub mod SymbolParts
 pub mod Laws

@@ -1,12 +1,9 @@
-//! Laws of runs of native code: each function's contract is one.
+//! Laws of runs of a symbol: each function's contract is one.
 
-ghost use Rattle.host_bridge.specs.Laws.{HostFunctionsHavePlaces, FaultsNameTheirPlace, EventsTakeFuel, RunsEnd, EndedRunsStay, MoreFuelIsTheSame, InitializersComeFirst};
-
-/// Each host function is found at its place, 0x200 and 16 bytes on for each one before it, and at no other; its name leads a
-/// library there.
-pub fn host_functions_have_places()
-    ensures { HostFunctionsHavePlaces }
-{}
+ghost use Rattle.host_bridge.specs.Laws.{
+    FaultsNameTheirPlace, EventsTakeFuel, RunsEnd, RunsEndInThreeWays, EndedRunsStay,
+    MoreFuelIsTheSame, InitializersComeFirst
+};
 
 /// A fault names the address of the instruction, or the place where native code has come to.
 pub fn faults_name_their_place()
@@ -21,6 +18,11 @@ pub fn events_take_fuel()
 /// Each run has ended after as many events as it has fuel.
 pub fn runs_end()
     ensures { RunsEnd }
+{}
+
+/// It ends with a number, for want of fuel, or by a fault.
+pub fn runs_end_in_three_ways()
+    ensures { RunsEndInThreeWays }
 {}
 
 /// Where a run has ended, nothing changes any more; a fault, too, leaves memory as it was.

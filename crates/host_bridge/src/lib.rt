@@ -1,15 +1,9 @@
-//! The native code of a run: its events, and the calls that no import makes.
+//! The run of a symbol: the initializers of libraries and a function, called by no import.
 #![tactic(auto)]
 
 mod calls;
-mod entry;
 pub mod laws;
-mod native_code;
-mod places;
 mod symbol;
 
 pub use calls::run_calls;
 pub use symbol::run_symbol;
-
-#[cfg(test)]
-mod tests;

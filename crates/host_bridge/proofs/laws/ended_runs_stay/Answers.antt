@@ -1,4 +1,4 @@
-use Rattle.host_bridge.proofs.StepsLaws.{ended_runs_stay}
+use Rattle.host_bridge.proofs.Parts.{ended_runs_stay}
 use Rattle.host_bridge.proofs.laws.ended_runs_stay.Goals as goal
 
 pub returns : goal.returns

@@ -1,4 +1,4 @@
-use Rattle.host_bridge.proofs.RunEnds.{runs_end}
+use Rattle.host_bridge.proofs.Parts.{runs_end}
 use Rattle.host_bridge.proofs.laws.runs_end.Goals as goal
 
 pub returns : goal.returns
