@@ -1,3 +1,4 @@
-pub mod StepsTaken
 pub mod EventPlaces
 pub mod EntryWords
+pub mod EventChanges
+pub mod EventWants

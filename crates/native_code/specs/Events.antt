@@ -1,13 +1,13 @@
 -- One event of native code: an instruction, or a host function.
-use Rattle.std.specs.Prelude.{ℕ, List, slice_index, Option, Some, None}
+use Rattle.std.specs.Prelude.{ℕ, Bool, false, List, slice_index, Option, Some, None}
+use Rattle.host_functions.specs.HostFunctions.{number_at}
 use Rattle.native_memory.specs.AddressSpace.{AddressSpace}
-use Rattle.native_heap.specs.Calls.{called}
+use Rattle.native_heap.specs.Calls.{called, wants_memory}
 use Rattle.rv_machine.specs.declared.outcome.Step.{Step}
 use Rattle.rv_machine.specs.declared.outcome.Step.TheVariants.{Went, At, Fault}
 use Rattle.rv_machine.specs.declared.registers.Regs.{Regs}
 use Rattle.rv_machine.specs.Machine.{State, state_of, rv_step}
 use Rattle.native_code.specs.Entry.{return_register}
-use Rattle.host_functions.specs.HostFunctions.{number_at}
 
 -- native code goes on with these registers and this memory; it has come to a place below memory at which no host function
 -- stands; or it faults, at this pc
@@ -40,3 +40,11 @@ after_step errno (Fault _) s = Faults s.pc
 unfoldable pub native_next : ℕ → Regs → AddressSpace → NativeNext
 native_next errno regs memory =
     let stepped : Step × State = rv_step (state_of regs memory) in after_step errno stepped.0 stepped.1
+
+-- memory may be wanting for an event: where the host function at pc takes some
+abbrev pub wants_at : List ℕ → AddressSpace → Option ℕ → Bool
+wants_at x memory (Some k) = wants_memory k x memory
+wants_at x memory None = false
+
+abbrev pub event_wants : Regs → AddressSpace → Bool
+event_wants regs memory = wants_at regs.x memory (number_at regs.pc)

@@ -3,11 +3,13 @@ use Rattle.std.specs.Prelude.{◌≡◌, ◌≢◌, ℕ, ◌<◌, List, length, 
 use Rattle.lp64_convention.specs.declared.places.Slot.TheVariants.{Reg}
 use Rattle.lp64_convention.specs.Places.{place_of}
 use Rattle.native_memory.specs.AddressSpace.{AddressSpace, lowest}
+use Rattle.native_memory.specs.Changes.{OnlyHeapChanges}
+use Rattle.native_memory.specs.Sound.{IsSound}
 use Rattle.rv_machine.specs.declared.registers.Regs.{Regs}
 use Rattle.host_functions.specs.HostFunctions.{number_at}
 use Rattle.native_code.specs.Places.{return_place}
 use Rattle.native_code.specs.Entry.{return_register, stack_register, entry_registers}
-use Rattle.native_code.specs.Events.{Arrives, Faults, native_next}
+use Rattle.native_code.specs.Events.{Continues, Arrives, Faults, native_next}
 
 -- a fault of native code names its pc
 abbrev pub FaultsNameTheirPlace : Type 0
@@ -37,3 +39,10 @@ pub record IsEntry (at sp : ℕ) (words : List ℕ) (regs : Regs) : Type 0 where
 
 abbrev pub EntriesHoldWords : Type 0
 EntriesHoldWords = (at sp : ℕ) (words : List ℕ) → IsEntry at sp words (entry_registers at sp words)
+
+-- of memory, an event of native code places, ends and changes heap blocks alone: all others stay, but
+-- for their bytes, and addresses of ended blocks stay free
+abbrev pub EventsKeepOthers : Type 0
+EventsKeepOthers =
+    (errno : ℕ) (regs regs' : Regs) (old new : AddressSpace) → IsSound old
+    → native_next errno regs old ≡ Continues regs' new → OnlyHeapChanges old new

@@ -1,8 +1,8 @@
 //! One event of native code.
 
-ghost use Rattle.std.specs.Prelude.{◌≡◌, ◌≢◌};
+ghost use Rattle.std.specs.Prelude.{◌≡◌, ◌≢◌, true};
 ghost use Rattle.host_functions.specs.HostFunctions.{number_at};
-ghost use Rattle.native_code.specs.Events.{at_place, native_next};
+ghost use Rattle.native_code.specs.Events.{at_place, native_next, wants_at, event_wants};
 ghost use Rattle.native_code.specs.EventAnswers.{EventIs};
 
 use host_functions::number_at;
@@ -25,14 +25,18 @@ pub enum Event {
     Memory,
 }
 
-/// Does the instruction or the host function at `pc`. `errno` is the address of the number of the last error.
+/// Does the instruction or the host function at `pc`. `errno` is the address of the number of the last
+/// error.
 ///
-/// Where the answer isn't `Went`, registers and memory are as they were. `Memory` comes only where native code would go on.
+/// Where the answer isn't `Went`, registers and memory are as they were. `Memory` comes only where the host
+/// function at `pc` takes some, and native code would go on after it.
 #[tactic(auto, unfolding(crate::specs::Events::native_next))]
 pub fn native_event(alloc: Global, errno: u64, regs: &mut Regs, memory: &mut Memory) -> Event
-    ensures next { EventIs result (native_next errno regs.old memory.old.space) regs.new memory.new.space }
+    ensures next { EventIs result (native_next errno regs.old memory.old.space)
+        regs.new memory.new.space }
+    ensures wants { result ≡ Event.Memory → event_wants regs.old memory.old.space ≡ true }
     ensures registers { result ≢ Event.Went → regs.new ≡ regs.old }
-    ensures memory { result ≢ Event.Went → memory.new.space ≡ memory.old.space }
+    ensures memory { result ≢ Event.Went → memory.new ≡ memory.old }
 {
     match step(regs, memory) {
         Step::Went => Event::Went,
@@ -43,9 +47,13 @@ pub fn native_event(alloc: Global, errno: u64, regs: &mut Regs, memory: &mut Mem
 
 /// Does the host function at a place, if one stands there, and returns to `ra`.
 fn arrive(alloc: Global, errno: u64, place: u64, regs: &mut Regs, memory: &mut Memory) -> Event
-    ensures next { EventIs result (at_place errno place regs.old.x memory.old.space (number_at place)) regs.new memory.new.space }
+    ensures next { EventIs result
+        (at_place errno place regs.old.x memory.old.space (number_at place))
+        regs.new memory.new.space }
+    ensures wants { result ≡ Event.Memory
+        → wants_at regs.old.x memory.old.space (number_at place) ≡ true }
     ensures registers { result ≢ Event.Went → regs.new ≡ regs.old }
-    ensures memory { result ≢ Event.Went → memory.new.space ≡ memory.old.space }
+    ensures memory { result ≢ Event.Went → memory.new ≡ memory.old }
 {
     let Some(k) = number_at(place) else {
         return Event::Arrived(place);

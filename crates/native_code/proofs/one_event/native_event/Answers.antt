@@ -1,28 +1,12 @@
-use Rattle.std.proofs.Common.{◌∙◌}
-use Rattle.rv_machine.specs.declared.outcome.Step.TheVariants.{At, Fault}
-use Rattle.native_code.proofs.StepsTaken.{Stepped, same_regs, same_memory}
+use Rattle.std.proofs.Common.{ap}
+use Rattle.native_memory.specs.AddressSpace.{NativeMemory}
+use Rattle.rv_machine.specs.Machine.{state_of}
+use Rattle.native_code.proofs.EventWants.{wants_before, stopped_at}
 use Rattle.native_code.proofs.one_event.native_event.Goals as goal
 
-pub returns-in-At-clause-registers : goal.returns-in-At-clause-registers
-returns-in-At-clause-registers c = λ stopped.
-    let stepped : Stepped c.args.regs.now c.args.memory.now.space (At c.in-At.place) c.step.new.regs c.step.new.memory.space =
-    record { came_to = c.in-At.ensures.outcome; left = c.in-At.ensures.state } in
-    c.arrive.ensures.registers stopped ∙ same_regs _ _ _ _ (At c.in-At.place) stepped (λ e. cc)
-
-pub returns-in-At-clause-memory : goal.returns-in-At-clause-memory
-returns-in-At-clause-memory c = λ stopped.
-    let stepped : Stepped c.args.regs.now c.args.memory.now.space (At c.in-At.place) c.step.new.regs c.step.new.memory.space =
-    record { came_to = c.in-At.ensures.outcome; left = c.in-At.ensures.state } in
-    c.arrive.ensures.memory stopped ∙ same_memory _ _ _ _ (At c.in-At.place) stepped (λ e. cc)
-
-pub returns-in-Fault-clause-registers : goal.returns-in-Fault-clause-registers
-returns-in-Fault-clause-registers c = λ stopped.
-    let stepped : Stepped c.args.regs.now c.args.memory.now.space (Fault c.in-Fault.field-0) c.step.new.regs c.step.new.memory.space =
-    record { came_to = c.in-Fault.ensures.outcome; left = c.in-Fault.ensures.state } in
-    same_regs _ _ _ _ (Fault c.in-Fault.field-0) stepped (λ e. cc)
-
-pub returns-in-Fault-clause-memory : goal.returns-in-Fault-clause-memory
-returns-in-Fault-clause-memory c = λ stopped.
-    let stepped : Stepped c.args.regs.now c.args.memory.now.space (Fault c.in-Fault.field-0) c.step.new.regs c.step.new.memory.space =
-    record { came_to = c.in-Fault.ensures.outcome; left = c.in-Fault.ensures.state } in
-    same_memory _ _ _ _ (Fault c.in-Fault.field-0) stepped (λ e. cc)
+pub returns-in-At-clause-wants : goal.returns-in-At-clause-wants
+returns-in-At-clause-wants c = λ wants.
+    let place = c.in-At.place in
+    wants_before c.args.regs.now c.step.new.regs c.args.memory.now.space c.step.new.memory.space place
+    (c.in-At.ensures.registers (λ e. cc)) (ap (λ (m : NativeMemory). m.space) (c.in-At.ensures.memory (λ e. cc)))
+    (stopped_at (state_of c.args.regs.now c.args.memory.now.space) place c.in-At.ensures.outcome) (c.arrive.ensures.wants wants)
