@@ -3,8 +3,9 @@
 //!
 //! - `# TEXT` is printed as it stands.
 //! - `hold NAME` names the file that is held from here on; `gone` holds none.
-//! - `file PATH` makes the file's bytes those of a file beside, `zeros N` so many zeros, `library SYMBOL SPARE WORD..` a
-//!   library of instruction words in hexadecimal under one symbol, with so many zero bytes after them.
+//! - `bytes HEX` makes the file's bytes these, `zeros N` so many zeros, `library SYMBOL SPARE WORD..` a library of
+//!   instruction words in hexadecimal under one symbol, with so many zero bytes after them.
+//! - `keep` keeps the file's bytes, and `again` makes them the file's again.
 //! - `set AT HEX` writes bytes into it, `cut N` keeps its front.
 //! - `fail read N`, `fail out N`, `fail err N` make that call fail, counted from 0, and `room out N`, `room err N` bound a
 //!   stream, for the next call alone.
@@ -20,7 +21,6 @@ mod setting;
 mod words;
 
 use setting::Setting;
-use std::rt::Files;
 
 fn main(rt: HostRuntime) -> anyhow::Result<()> {
     let mut setting = Setting::new(rt.alloc());
@@ -30,8 +30,8 @@ fn main(rt: HostRuntime) -> anyhow::Result<()> {
     Ok(())
 }
 
-fn answer<R: Print + Files + AllocGlobal>(
-    rt: &R,
+fn answer(
+    rt: &(impl Print + AllocGlobal),
     setting: &mut Setting,
     row: &str,
 ) -> anyhow::Result<()> {
@@ -42,7 +42,7 @@ fn answer<R: Print + Files + AllocGlobal>(
         "fronts" => calls::print_fronts(rt, setting, row)?,
         "words" => words::print_command(rt, row)?,
         "program" => words::print_program(rt, rest)?,
-        _ => setting.change(rt, kind, rest)?,
+        _ => setting.change(rt.alloc(), kind, rest)?,
     }
     Ok(())
 }

@@ -3,8 +3,6 @@
 use crate::images::library_of;
 use anyhow::{Context, bail};
 use std::alloc::Global;
-use std::fs;
-use std::rt::Files;
 
 /// How many bytes a stream takes where no row bounds it.
 const ROOM: usize = 4096;
@@ -16,6 +14,8 @@ pub struct Setting {
     /// Whether a file is held.
     pub is_held: bool,
     pub file: Vec<u8>,
+    /// The bytes that a later row makes the file's again.
+    kept: Vec<u8>,
     /// The numbers of calls that fail, and the rooms, for the next call.
     pub next: Bounds,
 }
@@ -64,6 +64,7 @@ impl Setting {
             name: String::new(alloc),
             is_held: false,
             file: Vec::new(alloc),
+            kept: Vec::new(alloc),
             next: Bounds::none(),
         }
     }
@@ -76,20 +77,16 @@ impl Setting {
     }
 
     /// Does what a row says that is no call.
-    pub fn change<R: Files + AllocGlobal>(
-        &mut self,
-        rt: &R,
-        kind: &str,
-        rest: &str,
-    ) -> anyhow::Result<()> {
-        let alloc = rt.alloc();
+    pub fn change(&mut self, alloc: Global, kind: &str, rest: &str) -> anyhow::Result<()> {
         match kind {
             "hold" => {
                 self.name = String::from_str(alloc, rest)?;
                 self.is_held = true;
             }
             "gone" => self.is_held = false,
-            "file" => self.file = fs::read(rt, rest)?,
+            "bytes" => self.file = hex::decode(alloc, rest)?,
+            "keep" => self.kept = copy_of(alloc, self.file.as_slice())?,
+            "again" => self.file = copy_of(alloc, self.kept.as_slice())?,
             "zeros" => self.file = zeros(alloc, rest.parse::<usize>()?)?,
             "library" => self.file = library_of(alloc, rest)?,
             "set" => self.set(alloc, rest)?,
@@ -115,6 +112,12 @@ impl Setting {
         }
         Ok(())
     }
+}
+
+fn copy_of(alloc: Global, bytes: &[u8]) -> anyhow::Result<Vec<u8>> {
+    let mut copy = Vec::new(alloc);
+    copy.extend_from_slice(bytes)?;
+    Ok(copy)
 }
 
 fn zeros(alloc: Global, len: usize) -> anyhow::Result<Vec<u8>> {
