@@ -1,5 +1,5 @@
--- The parts of an image by their places in the reading order, their names, and what a reader answers.
-use Rattle.std.specs.Prelude.{◌≡◌, ℕ, List, [], ◌∷◌, map, length, slice_index_or, codes, Option, Some, None, Result, Ok, Err, ⊤}
+-- The parts of an image by their places in the reading order, their names, and what an error says of an image.
+use Rattle.std.specs.Prelude.{◌≡◌, ℕ, List, [], ◌∷◌, map, length, slice_index_or, codes, Option, Some, None}
 use Rattle.std.specs.List.{range_with_len}
 use denote.Enum.Declared.{tag_of}
 use Rattle.bound_base.specs.contracts.image.Part.{the_type}
@@ -38,16 +38,6 @@ part_place part = tag_of the_type part
 
 abbrev pub part_name : Part → List ℕ
 part_name part = slice_index_or part_names (part_place part) []
-
--- A reader's refusal is the definition's: the place of the part, and the offset. Want of memory is free.
-abbrev pub Refuses : {Y : Type 0} → BadImage → Result Y (ℕ × ℕ) → Type 0
-Refuses (Bad part at) read = read ≡ Err (part_place part, at)
-Refuses Memory read = ⊤
-
--- What a reader answered, seen by `view`, is what the definition reads.
-abbrev pub Reads : {X Y : Type 0} → (X → Y) → Result X BadImage → Result Y (ℕ × ℕ) → Type 0
-Reads view (Ok x) read = read ≡ Ok (view x)
-Reads view (Err e) read = Refuses e read
 
 -- the list is in reading order
 abbrev pub PartsAreInOrder : Type 0
