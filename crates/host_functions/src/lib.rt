@@ -3,10 +3,9 @@
 #![tactic(auto)]
 
 mod functions;
-mod laws;
+pub mod laws;
 
 pub use functions::{
     HostFunction, function_number, host_function, host_name, host_place, number_at, number_named,
     place_named,
 };
-pub use laws::{names_are_found, places_are_below_memory, places_are_found};

@@ -54,7 +54,7 @@ impl<R: Files + Drop> Store for FileStore<R> {
             Err(error) if error.kind() == ErrorKind::NotFound => return Err(StoreFault::Absent),
             Err(error) => return Err(self.fault_of(&error)),
         };
-        match read_at(&mut file, at, into) {
+        match read_from(&mut file, at, into) {
             Ok(count) => Ok(count),
             Err(error) => Err(self.fault_of(&error)),
         }
@@ -63,7 +63,7 @@ impl<R: Files + Drop> Store for FileStore<R> {
 
 /// Fills `into` from the offset on, up to the end of the file, and answers how many bytes it read. A read that was
 /// interrupted is done again; after 2^64 - 1 reads it fails.
-fn read_at<F: Read + Seek>(file: &mut F, at: u64, into: &mut [u8]) -> io::Result<usize>
+pub fn read_from<F: Read + Seek>(file: &mut F, at: u64, into: &mut [u8]) -> io::Result<usize>
     ensures { IfOk result (λ count. count ≤ length into.old) }
 {
     file.seek(SeekFrom::Start(at))?;

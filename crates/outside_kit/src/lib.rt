@@ -9,7 +9,7 @@ mod mem_store;
 mod stream_sink;
 
 pub use calls::Bytes64;
-pub use file_store::FileStore;
+pub use file_store::{FileStore, read_from};
 pub use mem_sink::MemSink;
 pub use mem_store::MemStore;
 pub use stream_sink::StreamSink;
