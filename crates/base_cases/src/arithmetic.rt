@@ -4,6 +4,7 @@
 use cil_arith::{
     Arith, BinOp, CmpOp, ConvOp, Num, UnOp, binary, comparable, compare, convert, fits, unary,
 };
+
 const BINARY: [(&str, BinOp); 19] = [
     ("Add", BinOp::Add),
     ("Sub", BinOp::Sub),
@@ -26,10 +27,7 @@ const BINARY: [(&str, BinOp); 19] = [
     ("ShrUn", BinOp::ShrUn),
 ];
 
-const UNARY: [(&str, UnOp); 2] = [
-    ("Neg", UnOp::Neg),
-    ("Not", UnOp::Not),
-];
+const UNARY: [(&str, UnOp); 2] = [("Neg", UnOp::Neg), ("Not", UnOp::Not)];
 
 const COMPARISONS: [(&str, CmpOp); 10] = [
     ("Eq", CmpOp::Eq),
@@ -102,7 +100,8 @@ pub fn print(rt: &HostRuntime, words: &[&str]) -> anyhow::Result<bool> {
             print_result(rt, convert(op, a))?;
         }
         ["compare", op, a, b] => {
-            let (Some(op), Some(a), Some(b)) = (named(&COMPARISONS, op), number(a), number(b)) else {
+            let (Some(op), Some(a), Some(b)) = (named(&COMPARISONS, op), number(a), number(b))
+            else {
                 return Ok(false);
             };
             if comparable(op, a, b) {

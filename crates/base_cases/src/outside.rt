@@ -28,7 +28,8 @@ impl Outside {
     pub fn print(&mut self, rt: &HostRuntime, words: &[&str]) -> anyhow::Result<bool> {
         match words {
             ["hold", name, bytes] => {
-                self.store.hold(name, bytes_of(rt.alloc(), bytes)?.as_slice())?;
+                self.store
+                    .hold(name, bytes_of(rt.alloc(), bytes)?.as_slice())?;
                 println!(rt; "held")?;
             }
             ["reads_fail", numbers @ ..] => {
@@ -42,9 +43,15 @@ impl Outside {
                 println!(rt; "writes {numbers:?} fail")?;
             }
             ["put", bytes] => match self.sink.put(bytes_of(rt.alloc(), bytes)?.as_slice()) {
-                Ok(()) => println!(rt; "put, then [{}]", digits_of(rt.alloc(), self.sink.bytes())?)?,
+                Ok(()) => println!(rt;
+                    "put, then [{}]",
+                    digits_of(rt.alloc(), self.sink.bytes())?
+                )?,
                 Err(fault) => {
-                    println!(rt; "{fault}, then [{}]", digits_of(rt.alloc(), self.sink.bytes())?)?;
+                    println!(rt;
+                        "{fault}, then [{}]",
+                        digits_of(rt.alloc(), self.sink.bytes())?
+                    )?;
                 }
             },
             _ => return Ok(false),

@@ -81,7 +81,10 @@ impl Seek for Reader<'_> {
         let SeekFrom::Start(at) = to else {
             return Err(io::Error::from(ErrorKind::Unsupported));
         };
-        let skipped = self.rest.len().min(usize::try_from(at).unwrap_or(usize::MAX));
+        let skipped = self
+            .rest
+            .len()
+            .min(usize::try_from(at).unwrap_or(usize::MAX));
         self.rest = &self.rest[skipped..];
         Ok(at)
     }

@@ -1,7 +1,8 @@
 //! The host functions.
 
 use host_functions::{
-    function_number, host_function, host_name, host_place, laws, number_at, number_named, place_named,
+    function_number, host_function, host_name, host_place, laws, number_at, number_named,
+    place_named,
 };
 
 pub fn print(rt: &HostRuntime, words: &[&str]) -> anyhow::Result<bool> {
@@ -14,7 +15,11 @@ pub fn print(rt: &HostRuntime, words: &[&str]) -> anyhow::Result<bool> {
         }
         ["number_named", name] => {
             laws::names_are_found();
-            println!(rt; "{:?} {:?}", number_named(name.as_bytes()), place_named(name.as_bytes()))?;
+            println!(rt;
+                "{:?} {:?}",
+                number_named(name.as_bytes()),
+                place_named(name.as_bytes())
+            )?;
         }
         ["number_at", place] => {
             println!(rt; "{:?}", number_at(u64::from_str_radix(place, 16)?))?;

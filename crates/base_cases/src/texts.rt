@@ -118,8 +118,15 @@ fn print_reserved(rt: &HostRuntime, room: usize, numbers: &[&str]) -> anyhow::Re
         items.get(0)
     )?;
     let last = items.pop();
-    let first = if items.is_empty() { None } else { Some(items.remove(0)) };
-    print!(rt; "last {last:?}, first {first:?}, then {:?}", items.as_slice())?;
+    let first = if items.is_empty() {
+        None
+    } else {
+        Some(items.remove(0))
+    };
+    print!(rt;
+        "last {last:?}, first {first:?}, then {:?}",
+        items.as_slice()
+    )?;
     items.truncate(1);
     println!(rt; ", then {:?}", items.as_slice())?;
     Ok(())

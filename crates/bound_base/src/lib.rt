@@ -24,6 +24,3 @@ pub use outside::{Sink, SinkFault, Store, StoreFault};
 pub use put::PutError;
 pub use report::{Lending, LogEntry, Report};
 pub use reserved::Reserved;
-
-#[cfg(test)]
-mod tests;

@@ -19,6 +19,3 @@ pub use conversions::convert;
 pub use num::{Arith, Num};
 pub use operations::{BinOp, CmpOp, ConvOp, UnOp};
 pub use unary_operations::unary;
-
-#[cfg(test)]
-mod tests;

@@ -7,6 +7,3 @@ mod widening;
 
 pub use places::{PRESERVED_REGISTERS, Slot, is_preserved, word_place, words_of};
 pub use widening::widen;
-
-#[cfg(test)]
-mod tests;

@@ -13,6 +13,3 @@ pub use file_store::{FileStore, read_from};
 pub use mem_sink::MemSink;
 pub use mem_store::MemStore;
 pub use stream_sink::StreamSink;
-
-#[cfg(test)]
-mod tests;

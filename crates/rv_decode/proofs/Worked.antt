@@ -14,5 +14,5 @@ unfolding op_imm_32 misc_mem decoded
 words_of_none = (refl, refl)
 
 pub fields_out_of_range : FieldsOutOfRange
-unfolding r_type j_type shift32_type
-fields_out_of_range = (refl, refl, refl)
+unfolding r_type i_type s_type b_type u_type j_type shift64_type shift32_type fence_type
+fields_out_of_range = (refl, refl, refl, refl, refl, refl, refl, refl, refl, refl, refl, refl)

@@ -1,7 +1,7 @@
 -- Words that the GNU assembler gives, worked out by the definitions.
 use Rattle.std.specs.Prelude.{◌≡◌, ℕ, pos, negsuc, Some, None}
 use Rattle.rv_decode.specs.declared.instr.Instr.{Instr}
-use Rattle.rv_decode.specs.declared.instr.Instr.TheVariants.{Addw, Jalr, Addi, Lui, Sd, Srai, Sraiw, Bltu, Jal, Fence}
+use Rattle.rv_decode.specs.declared.instr.Instr.TheVariants.{Add, Addw, Jalr, Addi, Lui, Sb, Sd, Slli, Srai, Sraiw, Beq, Bltu, Jal, Fence}
 use Rattle.rv_decode.specs.Encoding.{encoding}
 use Rattle.rv_decode.specs.Decoding.{decoded}
 
@@ -28,6 +28,18 @@ WorkedWords =
 abbrev pub WordsOfNone : Type 0
 WordsOfNone = (decoded 0x0000100F ≡ None) × (decoded 0x0206961B ≡ None)
 
--- an odd distance, a register above 31, and a shift of 32 bits by 32 have no word
+-- fields that are past the ranges of their bits by one, or odd distances, have no word
 abbrev pub FieldsOutOfRange : Type 0
-FieldsOutOfRange = (encoding (Jal 1 (pos 3)) ≡ None) × (encoding (Addw 32 0 0) ≡ None) × (encoding (Sraiw 1 1 32) ≡ None)
+FieldsOutOfRange =
+    (encoding (Jal 1 (pos 3)) ≡ None)
+    × (encoding (Addw 32 0 0) ≡ None)
+    × (encoding (Sraiw 1 1 32) ≡ None)
+    × (encoding (Add 32 0 0) ≡ None)
+    × (encoding (Addi 1 1 (pos 2048)) ≡ None)
+    × (encoding (Sb 1 1 (negsuc 2048)) ≡ None)
+    × (encoding (Beq 1 1 (pos 3)) ≡ None)
+    × (encoding (Beq 1 1 (pos 4096)) ≡ None)
+    × (encoding (Jal 1 (negsuc 1048577)) ≡ None)
+    × (encoding (Lui 1 (pos 524288)) ≡ None)
+    × (encoding (Slli 1 1 64) ≡ None)
+    × (encoding (Fence 0 16 0 0 0) ≡ None)

@@ -12,7 +12,7 @@ pub fn other_words_are_none()
     ensures { WordsOfNone }
 {}
 
-/// An odd distance, a register above 31, and a shift of 32 bits by 32 have no word.
+/// An odd distance, a register above 31, a shift of 32 bits by 32, and immediates one past their ranges have no word.
 pub fn fields_out_of_range_have_no_word()
     ensures { FieldsOutOfRange }
 {}

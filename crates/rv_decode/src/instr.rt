@@ -4,7 +4,7 @@
 ///
 /// Registers are numbers from 0 to 31. An immediate is the signed number that the instruction means: of LUI and AUIPC the
 /// upper 20 bits (-2^19 to 2^19 - 1), of jumps and branches the distance in bytes, of shifts the amount.
-#[derive(Clone, Copy, Debug, PartialEq, Eq)]
+#[derive(Clone, Copy)]
 pub enum Instr {
     Lui {
         rd: u8,

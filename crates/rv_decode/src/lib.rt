@@ -10,11 +10,9 @@ mod instr;
 pub mod laws;
 mod lengths;
 mod opcodes;
+mod shown;
 
 pub use decoding::decode;
 pub use encoding::encode;
 pub use instr::Instr;
 pub use lengths::length_of;
-
-#[cfg(test)]
-mod tests;
