@@ -12,7 +12,8 @@ digit value = if nat_lt value 10 then 48 + value else 97 + (value - 10)
 
 -- `\` is 0x5C
 unfoldable pub escaped_byte : ℕ → List ℕ
-escaped_byte byte = if stands byte then byte ∷ [] else 0x5C ∷ digit (byte / 16) ∷ digit (byte % 16) ∷ []
+escaped_byte byte =
+    if stands byte then byte ∷ [] else 0x5C ∷ digit (byte / 16) ∷ digit (byte % 16) ∷ []
 
 abbrev pub escaped : List ℕ → List ℕ
 escaped name = flat_map escaped_byte name

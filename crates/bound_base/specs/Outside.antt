@@ -44,4 +44,5 @@ appended (Some bytes) piece = Some (bytes ++ piece)
 
 -- a front of the piece, at most the whole, was appended
 abbrev pub AppendsFront : Option (List ℕ) → Option (List ℕ) → List ℕ → Type 0
-AppendsFront old new piece = (front : List ℕ) × (rest : List ℕ) × (piece ≡ front ++ rest) × (new ≡ appended old front)
+AppendsFront old new piece =
+    (front : List ℕ) × (rest : List ℕ) × (piece ≡ front ++ rest) × (new ≡ appended old front)

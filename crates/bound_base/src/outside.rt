@@ -37,7 +37,8 @@ pub trait Store {
     fn read(&mut self, name: &str, at: u64, into: &mut [u8]) -> Result<usize, StoreFault>
         ensures within { IfOk result (λ n. n ≤ length into.old) }
         ensures answer { IsReadOf (contents_under (held self.old) name.now) at into.new result }
-        ensures failed { IsErrOf result StoreFault.Failed → Rose (faults self.old) (faults self.new) }
+        ensures failed { IsErrOf result StoreFault.Failed
+            → Rose (faults self.old) (faults self.new) }
         ensures uncounted { CountsOnlyFailed result (faults self.old) (faults self.new) }
         ensures count { faults self.old ≤ faults self.new }
         ensures kept { held self.new ≡ held self.old };
@@ -54,7 +55,8 @@ pub trait Sink {
     /// Appends the piece. After a failure some front of it was appended.
     fn put(&mut self, piece: &[u8]) -> Result<(), SinkFault>
         ensures ok { OnOk result (contents self.new ≡ appended (contents self.old) piece.now) }
-        ensures err { OnErr result (AppendsFront (contents self.old) (contents self.new) piece.now) }
+        ensures err { OnErr result
+            (AppendsFront (contents self.old) (contents self.new) piece.now) }
         ensures failed { OnErr result (Rose (faults self.old) (faults self.new)) }
         ensures uncounted { OnOk result (faults self.new ≡ faults self.old) }
         ensures count { faults self.old ≤ faults self.new };

@@ -25,7 +25,10 @@ impl<T> Model for Reserved<T> {
 
     ghost coded = { with_room_code T.code };
 
-    ghost view = { λ list. record { items = list.items.items; room = vec_capacity list.items - vec_len list.items } };
+    ghost view = { λ list. record {
+      items = list.items.items;
+      room = vec_capacity list.items - vec_len list.items;
+    } };
 }
 
 impl<T> Reserved<T> {
@@ -117,7 +120,8 @@ impl<T: Drop> Reserved<T> {
     /// Keeps the first `len` elements. The places of the others are room again.
     pub fn truncate(&mut self, len: usize)
         ensures items { self.new.items ≡ take len self.old.items }
-        ensures room { self.new.room + length self.new.items ≡ self.old.room + length self.old.items }
+        ensures room { self.new.room + length self.new.items
+            ≡ self.old.room + length self.old.items }
     {
         self.items.truncate(len);
     }

@@ -72,7 +72,9 @@ checked reading w z = if holds reading w z then Ok (int_wrap w z) else Err Overf
 -- an operation on a dividend and a divisor, whose quotient has to fit
 abbrev pub divided : Reading → Width → (ℤ → ℤ → ℤ) → ℤ → ℤ → Result ℤ Arith
 divided reading w f a b =
-    if unsigned_abs b == 0 then Err DivideByZero else if holds reading w (int_div a b) then Ok (int_wrap w (f a b)) else Err Overflow
+    if unsigned_abs b == 0
+    then Err DivideByZero
+    else if holds reading w (int_div a b) then Ok (int_wrap w (f a b)) else Err Overflow
 
 -- a shift's amount: its low 5 bits at 32 bits, its low 6 at 64
 abbrev pub amount_of : Width → ℤ → ℕ
@@ -93,7 +95,8 @@ in_kind kind result = result_map_both (number kind) (λ error. error) result
 -- What an operation gives for two numbers; none where their kinds don't fit it.
 abbrev pub binary_of : BinOp → Num → Num → Option (Result Num Arith)
 binary_of op a b =
-    option_map (λ kind. in_kind kind (answer (rule op) (width kind) (whole a) (whole b))) (result_kind (rule op) (kind_of a) (kind_of b))
+    option_map (λ kind. in_kind kind (answer (rule op) (width kind) (whole a) (whole b)))
+    (result_kind (rule op) (kind_of a) (kind_of b))
 
 -- the negative, and the number with every bit turned
 abbrev pub unary_whole : UnOp → ℤ → ℤ

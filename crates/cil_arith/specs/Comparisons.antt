@@ -45,4 +45,5 @@ relation_at c w a b = c.relation (read c.reading w a) (read c.reading w b)
 -- Whether a comparison holds of two numbers; none where their kinds can't be compared.
 abbrev pub comparison_of : CmpOp → Num → Num → Option Bool
 comparison_of op a b =
-    option_map (λ kind. relation_at (comparison op) (width kind) (whole a) (whole b)) (common_kind (kind_of a) (kind_of b))
+    option_map (λ kind. relation_at (comparison op) (width kind) (whole a) (whole b))
+    (common_kind (kind_of a) (kind_of b))

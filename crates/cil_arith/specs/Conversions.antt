@@ -99,7 +99,8 @@ cut target z = wrapped target.kind (low_bits target.reading target.size z)
 
 -- the number itself, where the target holds it
 abbrev pub checked : IntegerType → ℤ → Result Num Arith
-checked target z = if holds target.reading target.size z then Ok (wrapped target.kind z) else Err Overflow
+checked target z =
+    if holds target.reading target.size z then Ok (wrapped target.kind z) else Err Overflow
 
 -- a source that the target's width is wider than is widened by the target's sign
 abbrev pub converted : Conversion → Num → Result Num Arith

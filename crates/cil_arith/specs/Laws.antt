@@ -34,7 +34,8 @@ plain op = op
 -- where a checked form gives a number, its plain form gives the same
 abbrev pub CheckedFormsGivePlainResults : Type 0
 CheckedFormsGivePlainResults =
-    (op : BinOp) (a b c : Num) → IsNumber a → IsNumber b → binary_of op a b ≡ Some (Ok c) → binary_of (plain op) a b ≡ Some (Ok c)
+    (op : BinOp) (a b c : Num) → IsNumber a → IsNumber b → binary_of op a b ≡ Some (Ok c)
+    → binary_of (plain op) a b ≡ Some (Ok c)
 
 -- a whole number that a width doesn't hold in a reading
 abbrev pub IsOutside : Reading → Width → ℤ → Type 0
@@ -46,7 +47,9 @@ CheckedFormsOverflowOutside =
     (op : BinOp) (reading : Reading) (f : ℤ → ℤ → ℤ) (a b : Num) (kind : Kind)
     → rule op ≡ Checks reading f
     → common_kind (kind_of a) (kind_of b) ≡ Some kind
-    → (binary_of op a b ≡ Some (Err Overflow)) ↔ IsOutside reading (width kind) (f (read reading (width kind) (whole a)) (read reading (width kind) (whole b)))
+    → (binary_of op a b ≡ Some (Err Overflow))
+    ↔ IsOutside reading (width kind)
+    (f (read reading (width kind) (whole a)) (read reading (width kind) (whole b)))
 
 -- a quotient and a remainder: the quotient is rounded toward zero, and the remainder has the dividend's sign
 pub record AreQuotientAndRemainder (a b q r : ℤ) : Type 0 where
@@ -73,7 +76,8 @@ QuotientsAndRemaindersBelongTogether =
     → IsNumber b
     → binary_of (quotient_op reading) a b ≡ Some (Ok q)
     → binary_of (remainder_op reading) a b ≡ Some (Ok r)
-    → let value : Num → ℤ = λ n. read reading (width (kind_of q)) (whole n) in AreQuotientAndRemainder (value a) (value b) (value q) (value r)
+    → let value : Num → ℤ = λ n. read reading (width (kind_of q)) (whole n) in
+    AreQuotientAndRemainder (value a) (value b) (value q) (value r)
 
 -- div, div.un, rem or rem.un
 abbrev pub IsDivision : BinOp → Type 0
@@ -94,8 +98,10 @@ LeastByMinusOneOverflows =
     → IsNumber a
     → IsNumber b
     → common_kind (kind_of a) (kind_of b) ≡ Some kind
-    → ((binary_of Div a b ≡ Some (Err Overflow)) ↔ ((whole a ≡ least Signed (width kind)) × (whole b ≡ negsuc 0)))
-    × ((binary_of Rem a b ≡ Some (Err Overflow)) ↔ ((whole a ≡ least Signed (width kind)) × (whole b ≡ negsuc 0)))
+    → ((binary_of Div a b ≡ Some (Err Overflow))
+    ↔ ((whole a ≡ least Signed (width kind)) × (whole b ≡ negsuc 0)))
+    × ((binary_of Rem a b ≡ Some (Err Overflow))
+    ↔ ((whole a ≡ least Signed (width kind)) × (whole b ≡ negsuc 0)))
     × ¬ (binary_of DivUn a b ≡ Some (Err Overflow))
     × ¬ (binary_of RemUn a b ≡ Some (Err Overflow))
 
@@ -140,7 +146,8 @@ abbrev pub ConversionsGiveNumbersOfTheTarget : Type 0
 ConversionsGiveNumbersOfTheTarget =
     (op : ConvOp) (target : IntegerType) (a : Num)
     → conversion op ≡ Cuts target
-    → (c : Num) × (conversion_of op a ≡ Ok c) × (holds target.reading target.size (source target.reading c) ≡ true)
+    → (c : Num) × (conversion_of op a ≡ Ok c)
+    × (holds target.reading target.size (source target.reading c) ≡ true)
 
 -- ---- comparisons
 
@@ -174,7 +181,8 @@ turned LtUn = GtUn
 abbrev pub ComparisonsHaveOpposites : Type 0
 ComparisonsHaveOpposites =
     (op : CmpOp) (a b : Num)
-    → (comparison_of (opposite op) a b ≡ option_map not (comparison_of op a b)) × (comparison_of (turned op) b a ≡ comparison_of op a b)
+    → (comparison_of (opposite op) a b ≡ option_map not (comparison_of op a b))
+    × (comparison_of (turned op) b a ≡ comparison_of op a b)
 
 -- ceq holds of two numbers that can be compared where their values are one, whatever their kinds
 abbrev pub EqualNumbersHaveOneValue : Type 0

@@ -45,4 +45,6 @@ place_named name = option_map host_place (number_named name)
 abbrev pub number_at : ℕ → Option ℕ
 number_at place =
     let number : ℕ = (place - host_place 0) / 16 in
-    if nat_lt number (length host_functions) && place == host_place number then Some number else None
+    if nat_lt number (length host_functions) && place == host_place number
+    then Some number
+    else None

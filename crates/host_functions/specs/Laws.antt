@@ -9,8 +9,10 @@ NamesAreFound = map number_named host_names ≡ map Some (range_with_len 0 (leng
 
 -- each function is found at its place, and at no other
 pub record StandsAt (place number : ℕ) : Type 0 where
-  pub found : number < length host_functions → place ≡ host_place number → number_at place ≡ Some number
-  pub only : number_at place ≡ Some number → (number < length host_functions) × (place ≡ host_place number)
+  pub found :
+      number < length host_functions → place ≡ host_place number → number_at place ≡ Some number
+  pub only :
+      number_at place ≡ Some number → (number < length host_functions) × (place ≡ host_place number)
 
 abbrev pub PlacesAreFound : Type 0
 PlacesAreFound = (place number : ℕ) → StandsAt place number

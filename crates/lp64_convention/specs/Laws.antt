@@ -21,12 +21,14 @@ WidenedOnceIsWide =
 -- two words with the same low bytes are widened to one
 abbrev pub OnlyLowBytesMatter : Type 0
 OnlyLowBytesMatter =
-    (a b width : ℕ) (signed : Bool) → a % 2 ^ (8 * width) ≡ b % 2 ^ (8 * width) → widened a width signed ≡ widened b width signed
+    (a b width : ℕ) (signed : Bool) → a % 2 ^ (8 * width) ≡ b % 2 ^ (8 * width)
+    → widened a width signed ≡ widened b width signed
 
 -- a widened signed integer, read as a signed word, is that integer
 abbrev pub SignedIntegersReadBack : Type 0
 SignedIntegersReadBack =
-    (bits width : ℕ) → IsTrue (is_integer_size width) → signed_of 64 (widened bits width true) ≡ integer_of bits width true
+    (bits width : ℕ) → IsTrue (is_integer_size width)
+    → signed_of 64 (widened bits width true) ≡ integer_of bits width true
 
 -- an integer of 32 bits without a sign is widened as one with a sign
 abbrev pub UnsignedWordsAreSignExtended : Type 0
@@ -34,11 +36,13 @@ UnsignedWordsAreSignExtended = (bits : ℕ) → widened bits 4 false ≡ widened
 
 -- an integer of 8 or 16 bits without a sign is its own number
 abbrev pub NarrowUnsignedIntegersReadBack : Type 0
-NarrowUnsignedIntegersReadBack = (bits width : ℕ) → (width ≡ 1) ⊎ (width ≡ 2) → widened bits width false ≡ bits % 2 ^ (8 * width)
+NarrowUnsignedIntegersReadBack =
+    (bits width : ℕ) → (width ≡ 1) ⊎ (width ≡ 2) → widened bits width false ≡ bits % 2 ^ (8 * width)
 
 -- the first eight words are passed in a0 to a7, in order, and no further word in a register
 pub record WordsHaveRegisters (k : ℕ) : Type 0 where
-  pub passed : k < argument_registers → register_of (place_of k) ≡ Some (first_argument_register + k)
+  pub passed :
+      k < argument_registers → register_of (place_of k) ≡ Some (first_argument_register + k)
   pub others : argument_registers ≤ k → register_of (place_of k) ≡ None
 
 abbrev pub FirstWordsHaveRegisters : Type 0
@@ -46,4 +50,5 @@ FirstWordsHaveRegisters = (k : ℕ) → WordsHaveRegisters k
 
 -- no word is passed in a register that the function preserves
 abbrev pub PreservedRegistersHaveNoWord : Type 0
-PreservedRegistersHaveNoWord = (k register : ℕ) → place_of k ≡ Reg register → ¬ Contains preserved_registers register
+PreservedRegistersHaveNoWord =
+    (k register : ℕ) → place_of k ≡ Reg register → ¬ Contains preserved_registers register

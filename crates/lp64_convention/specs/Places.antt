@@ -21,7 +21,9 @@ word_count size = if nat_le size word_size then 1 else if nat_le size (2 * word_
 -- the words in order: in the argument registers, and then on the stack
 abbrev pub place_of : ℕ → Slot
 place_of k =
-    if nat_lt k argument_registers then Reg (first_argument_register + k) else Stack (word_size * (k - argument_registers))
+    if nat_lt k argument_registers
+    then Reg (first_argument_register + k)
+    else Stack (word_size * (k - argument_registers))
 
 -- the number of the register where a word is passed, None where it is passed on the stack
 abbrev pub register_of : Slot → Option ℕ

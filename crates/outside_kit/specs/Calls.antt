@@ -16,4 +16,7 @@ failing_at calls failing = record calls { failing = failing }
 
 -- after a call, which failed or not
 abbrev pub after_call : Calls → Bool → Calls
-after_call calls failed = record calls { next = counted calls.next; faults = if failed then counted calls.faults else calls.faults }
+after_call calls failed = record calls {
+  next = counted calls.next;
+  faults = if failed then counted calls.faults else calls.faults;
+}

@@ -14,4 +14,5 @@ sink_calls sink = sink.calls
 
 -- The next write of so many bytes fails: it is one of those that are to, or there is no room for it.
 abbrev pub Fails : MemSink → ℕ → Type 0
-Fails sink len = Contains sink.calls.failing sink.calls.next ⊎ (sink.room < length sink.bytes.items + len)
+Fails sink len =
+    Contains sink.calls.failing sink.calls.next ⊎ (sink.room < length sink.bytes.items + len)

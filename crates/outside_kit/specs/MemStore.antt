@@ -18,7 +18,8 @@ store_calls store = store.calls
 
 -- These bytes are held under the name, and under each other name what was.
 abbrev pub IsHeldAs : Files → Files → List ℕ → List ℕ → Type 0
-IsHeldAs old new name bytes = (other : List ℕ) → new other ≡ update bytes_eq old name (Some bytes) other
+IsHeldAs old new name bytes =
+    (other : List ℕ) → new other ≡ update bytes_eq old name (Some bytes) other
 
 -- the read counts as one that failed
 abbrev pub has_failed : Result ℕ StoreFault → Bool

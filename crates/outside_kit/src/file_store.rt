@@ -27,7 +27,8 @@ impl<R: Files + Drop> FileStore<R> {
 
     /// The answer to an error of the system: Memory where it had none, else Failed, which is counted.
     fn fault_of(&mut self, error: &io::Error) -> StoreFault
-        ensures memory { (result ≡ StoreFault.Memory) ↔ (error_kind error.now ≡ ErrorKind.OutOfMemory) }
+        ensures memory { (result ≡ StoreFault.Memory)
+            ↔ (error_kind error.now ≡ ErrorKind.OutOfMemory) }
         ensures never_absent { result ≢ StoreFault.Absent }
         ensures failed { result ≡ StoreFault.Failed → Rose self.old.faults self.new.faults }
         ensures uncounted { result ≡ StoreFault.Memory → self.new.faults ≡ self.old.faults }

@@ -55,7 +55,8 @@ impl MemSink {
     /// Appends the piece where the call isn't to fail and there is room for it, and answers whether it did.
     fn append(&mut self, piece: &[u8]) -> bool
         ensures fails { (result ≡ false) ↔ Fails self.old (length piece.now) }
-        ensures bytes { sink_bytes self.new ≡ (if result then sink_bytes self.old ++ piece.now else sink_bytes self.old) }
+        ensures bytes { sink_bytes self.new
+            ≡ (if result then sink_bytes self.old ++ piece.now else sink_bytes self.old) }
         ensures room { sink_room self.new ≡ sink_room self.old }
         ensures calls { sink_calls self.new ≡ sink_calls self.old }
     {
@@ -76,10 +77,14 @@ impl Sink for MemSink {
     /// It fails just where the call is one of those that are to fail or the piece is past the room, and appends
     /// nothing then.
     fn put(&mut self, piece: &[u8]) -> Result<(), SinkFault>
-        ensures ok { OnOk result (Some (sink_bytes self.new) ≡ appended (Some (sink_bytes self.old)) piece.now) }
-        ensures err { OnErr result (AppendsFront (Some (sink_bytes self.old)) (Some (sink_bytes self.new)) piece.now) }
-        ensures failed { OnErr result (Rose (sink_calls self.old).faults (sink_calls self.new).faults) }
-        ensures uncounted { OnOk result ((sink_calls self.new).faults ≡ (sink_calls self.old).faults) }
+        ensures ok { OnOk result
+            (Some (sink_bytes self.new) ≡ appended (Some (sink_bytes self.old)) piece.now) }
+        ensures err { OnErr result
+            (AppendsFront (Some (sink_bytes self.old)) (Some (sink_bytes self.new)) piece.now) }
+        ensures failed { OnErr result
+            (Rose (sink_calls self.old).faults (sink_calls self.new).faults) }
+        ensures uncounted { OnOk result
+            ((sink_calls self.new).faults ≡ (sink_calls self.old).faults) }
         ensures count { (sink_calls self.old).faults ≤ (sink_calls self.new).faults }
 
         ensures fails { IsErr result ↔ Fails self.old (length piece.now) }

@@ -35,7 +35,8 @@ impl MemStore {
     /// Holds a copy of the bytes under the name, in place of what was held under it. Where there is no memory for
     /// it, what is held stays as it was.
     pub fn hold(&mut self, name: &str, bytes: &[u8]) -> Result<(), NoMemory>
-        ensures ok { OnOk result (IsHeldAs (store_files self.old) (store_files self.new) name.now bytes.now) }
+        ensures ok { OnOk result
+            (IsHeldAs (store_files self.old) (store_files self.new) name.now bytes.now) }
         ensures err { OnErr result (store_files self.new ≡ store_files self.old) }
         ensures calls { store_calls self.new ≡ store_calls self.old }
     {
@@ -65,14 +66,19 @@ impl Store for MemStore {
     /// It takes no memory, and fails just where the call is one of those that are to fail.
     fn read(&mut self, name: &str, at: u64, into: &mut [u8]) -> Result<usize, StoreFault>
         ensures within { IfOk result (λ n. n ≤ length into.old) }
-        ensures answer { IsReadOf (contents_under (Some (store_files self.old)) name.now) at into.new result }
-        ensures failed { IsErrOf result StoreFault.Failed → Rose (store_calls self.old).faults (store_calls self.new).faults }
-        ensures uncounted { CountsOnlyFailed result (store_calls self.old).faults (store_calls self.new).faults }
+        ensures answer { IsReadOf (contents_under (Some (store_files self.old)) name.now)
+            at into.new result }
+        ensures failed { IsErrOf result StoreFault.Failed
+            → Rose (store_calls self.old).faults (store_calls self.new).faults }
+        ensures uncounted { CountsOnlyFailed result
+            (store_calls self.old).faults (store_calls self.new).faults }
         ensures count { (store_calls self.old).faults ≤ (store_calls self.new).faults }
         ensures kept { Some (store_files self.new) ≡ Some (store_files self.old) }
 
-        ensures fails { IsErrOf result StoreFault.Failed ↔ Contains (store_calls self.old).failing (store_calls self.old).next }
-        ensures calls { store_calls self.new ≡ after_call (store_calls self.old) (has_failed result) }
+        ensures fails { IsErrOf result StoreFault.Failed
+            ↔ Contains (store_calls self.old).failing (store_calls self.old).next }
+        ensures calls { store_calls self.new
+            ≡ after_call (store_calls self.old) (has_failed result) }
         ensures no_memory { result ≢ Err StoreFault.Memory }
         ensures untouched { OnErr result (into.new ≡ into.old) }
         ensures full { IfOk result (λ n. IfSome (store_files self.old name.now)

@@ -41,13 +41,17 @@ abbrev pub s_imm : ℕ → ℤ
 s_imm word = signed 12 (bits word 25 7 * 2 ^ 5 + bits word 7 5)
 
 abbrev pub b_imm : ℕ → ℤ
-b_imm word = signed 13 (bits word 31 1 * 2 ^ 12 + bits word 7 1 * 2 ^ 11 + bits word 25 6 * 2 ^ 5 + bits word 8 4 * 2 ^ 1)
+b_imm word =
+    signed 13
+    (bits word 31 1 * 2 ^ 12 + bits word 7 1 * 2 ^ 11 + bits word 25 6 * 2 ^ 5 + bits word 8 4 * 2 ^ 1)
 
 abbrev pub u_imm : ℕ → ℤ
 u_imm word = signed 20 (bits word 12 20)
 
 abbrev pub j_imm : ℕ → ℤ
-j_imm word = signed 21 (bits word 31 1 * 2 ^ 20 + bits word 12 8 * 2 ^ 12 + bits word 20 1 * 2 ^ 11 + bits word 21 10 * 2 ^ 1)
+j_imm word =
+    signed 21
+    (bits word 31 1 * 2 ^ 20 + bits word 12 8 * 2 ^ 12 + bits word 20 1 * 2 ^ 11 + bits word 21 10 * 2 ^ 1)
 
 -- opcode 0x63
 unfoldable pub branch : ℕ → ℕ → ℕ → ℤ → Option Instr
@@ -90,7 +94,8 @@ op_imm funct3 funct6 rd rs1 imm shamt =
     else if funct3 == 0x3 then Some (Sltiu rd rs1 imm)
     else if funct3 == 0x4 then Some (Xori rd rs1 imm)
     else if funct3 == 0x5
-    then (if funct6 == 0x00 then Some (Srli rd rs1 shamt) else if funct6 == 0x10 then Some (Srai rd rs1 shamt) else None)
+    then (if funct6 == 0x00 then Some (Srli rd rs1 shamt)
+    else if funct6 == 0x10 then Some (Srai rd rs1 shamt) else None)
     else if funct3 == 0x6 then Some (Ori rd rs1 imm)
     else if funct3 == 0x7 then Some (Andi rd rs1 imm)
     else None
@@ -101,7 +106,8 @@ op_imm_32 funct3 funct7 rd rs1 imm shamt =
     if funct3 == 0x0 then Some (Addiw rd rs1 imm)
     else if funct3 == 0x1 then (if funct7 == 0x00 then Some (Slliw rd rs1 shamt) else None)
     else if funct3 == 0x5
-    then (if funct7 == 0x00 then Some (Srliw rd rs1 shamt) else if funct7 == 0x20 then Some (Sraiw rd rs1 shamt) else None)
+    then (if funct7 == 0x00 then Some (Srliw rd rs1 shamt)
+    else if funct7 == 0x20 then Some (Sraiw rd rs1 shamt) else None)
     else None
 
 -- opcode 0x33, by funct7: the operations of the base
@@ -182,11 +188,13 @@ jump_register funct3 rd rs1 imm = if funct3 == 0x0 then Some (Jalr rd rs1 imm) e
 
 -- opcode 0x0F
 unfoldable pub misc_mem : ℕ → ℕ → ℕ → ℕ → ℕ → ℕ → Option Instr
-misc_mem funct3 fm pred succ rs1 rd = if funct3 == 0x0 then Some (Fence fm pred succ rs1 rd) else None
+misc_mem funct3 fm pred succ rs1 rd =
+    if funct3 == 0x0 then Some (Fence fm pred succ rs1 rd) else None
 
 -- opcode 0x73: two whole words
 unfoldable pub system : ℕ → Option Instr
-system word = if word == 0x00000073 then Some Ecall else if word == 0x00100073 then Some Ebreak else None
+system word =
+    if word == 0x00000073 then Some Ecall else if word == 0x00100073 then Some Ebreak else None
 
 -- the instruction that has the word
 unfoldable pub decoded : ℕ → Option Instr
@@ -197,10 +205,12 @@ decoded word =
     let rs1 = rs1_of word in
     let rs2 = rs2_of word in
     if opcode == 0x03 then load funct3 rd rs1 (i_imm word)
-    else if opcode == 0x0F then misc_mem funct3 (bits word 28 4) (bits word 24 4) (bits word 20 4) rs1 rd
+    else if opcode == 0x0F
+    then misc_mem funct3 (bits word 28 4) (bits word 24 4) (bits word 20 4) rs1 rd
     else if opcode == 0x13 then op_imm funct3 (funct6_of word) rd rs1 (i_imm word) (shamt64_of word)
     else if opcode == 0x17 then Some (Auipc rd (u_imm word))
-    else if opcode == 0x1B then op_imm_32 funct3 (funct7_of word) rd rs1 (i_imm word) (shamt32_of word)
+    else if opcode == 0x1B
+    then op_imm_32 funct3 (funct7_of word) rd rs1 (i_imm word) (shamt32_of word)
     else if opcode == 0x23 then store funct3 rs1 rs2 (s_imm word)
     else if opcode == 0x33 then op funct3 (funct7_of word) rd rs1 rs2
     else if opcode == 0x37 then Some (Lui rd (u_imm word))

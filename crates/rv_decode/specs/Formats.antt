@@ -23,7 +23,8 @@ unfoldable pub s_type : ℕ → ℕ → ℕ → ℕ → ℤ → Option ℕ
 s_type opcode funct3 rs1 rs2 value =
     let imm = twos_complement 12 value in
     word_if (is_register rs1 && is_register rs2 && holds 12 value)
-    (bits imm 5 7 * 2 ^ 25 + rs2 * 2 ^ 20 + rs1 * 2 ^ 15 + funct3 * 2 ^ 12 + bits imm 0 5 * 2 ^ 7 + opcode)
+    (bits imm 5 7 * 2 ^ 25 + rs2 * 2 ^ 20 + rs1 * 2 ^ 15 + funct3 * 2 ^ 12
+    + bits imm 0 5 * 2 ^ 7 + opcode)
 
 -- imm[12] | imm[10:5] | rs2 | rs1 | funct3 | imm[4:1] | imm[11] | opcode
 unfoldable pub b_type : ℕ → ℕ → ℕ → ℕ → ℤ → Option ℕ
@@ -44,7 +45,8 @@ unfoldable pub j_type : ℕ → ℕ → ℤ → Option ℕ
 j_type opcode rd value =
     let imm = twos_complement 21 value in
     word_if (is_register rd && holds 21 value && is_even value)
-    (bits imm 20 1 * 2 ^ 31 + bits imm 1 10 * 2 ^ 21 + bits imm 11 1 * 2 ^ 20 + bits imm 12 8 * 2 ^ 12
+    (bits imm 20 1 * 2 ^ 31 + bits imm 1 10 * 2 ^ 21 + bits imm 11 1 * 2 ^ 20
+    + bits imm 12 8 * 2 ^ 12
     + rd * 2 ^ 7 + opcode)
 
 -- funct6 | shamt[5:0] | rs1 | funct3 | rd | opcode, the shifts of 64 bits
@@ -63,4 +65,5 @@ shift32_type opcode funct3 funct7 rd rs1 shamt =
 unfoldable pub fence_type : ℕ → ℕ → ℕ → ℕ → ℕ → ℕ → ℕ → Option ℕ
 fence_type opcode funct3 fm pred succ rs1 rd =
     word_if (nat_lt fm 16 && nat_lt pred 16 && nat_lt succ 16 && is_register rs1 && is_register rd)
-    (fm * 2 ^ 28 + pred * 2 ^ 24 + succ * 2 ^ 20 + rs1 * 2 ^ 15 + funct3 * 2 ^ 12 + rd * 2 ^ 7 + opcode)
+    (fm * 2 ^ 28 + pred * 2 ^ 24 + succ * 2 ^ 20 + rs1 * 2 ^ 15 + funct3 * 2 ^ 12
+    + rd * 2 ^ 7 + opcode)

@@ -133,7 +133,8 @@ fn jump_register(word: u32) -> Option<Instr>
 /// Opcode OP-IMM.
 #[tactic(auto, unfolding(crate::specs::Decoding::op_imm))]
 fn op_imm(word: u32) -> Option<Instr>
-    ensures { result ≡ op_imm (funct3_of word) (funct6_of word) (rd_of word) (rs1_of word) (i_imm word) (shamt64_of word) }
+    ensures { result
+        ≡ op_imm (funct3_of word) (funct6_of word) (rd_of word) (rs1_of word) (i_imm word) (shamt64_of word) }
 {
     let (rd, rs1, imm, shamt) = (rd(word), rs1(word), i_immediate(word), shamt64(word));
     match funct3(word) {
@@ -159,7 +160,8 @@ fn op_imm(word: u32) -> Option<Instr>
 /// Opcode OP-IMM-32.
 #[tactic(auto, unfolding(crate::specs::Decoding::op_imm_32))]
 fn op_imm_32(word: u32) -> Option<Instr>
-    ensures { result ≡ op_imm_32 (funct3_of word) (funct7_of word) (rd_of word) (rs1_of word) (i_imm word) (shamt32_of word) }
+    ensures { result
+        ≡ op_imm_32 (funct3_of word) (funct7_of word) (rd_of word) (rs1_of word) (i_imm word) (shamt32_of word) }
 {
     let (rd, rs1, shamt) = (rd(word), rs1(word), shamt32(word));
     match (funct3(word), field(word, 25, 7)) {
@@ -178,7 +180,8 @@ fn op_imm_32(word: u32) -> Option<Instr>
 /// Opcode OP.
 #[tactic(auto, unfolding(crate::specs::Decoding::op))]
 fn op(word: u32) -> Option<Instr>
-    ensures { result ≡ op (funct3_of word) (funct7_of word) (rd_of word) (rs1_of word) (rs2_of word) }
+    ensures { result
+        ≡ op (funct3_of word) (funct7_of word) (rd_of word) (rs1_of word) (rs2_of word) }
 {
     match field(word, 25, 7) {
         0x00 => op_base(word),
@@ -242,7 +245,8 @@ fn op_mul(word: u32) -> Option<Instr>
 /// Opcode OP-32.
 #[tactic(auto, unfolding(crate::specs::Decoding::op_32))]
 fn op_32(word: u32) -> Option<Instr>
-    ensures { result ≡ op_32 (funct3_of word) (funct7_of word) (rd_of word) (rs1_of word) (rs2_of word) }
+    ensures { result
+        ≡ op_32 (funct3_of word) (funct7_of word) (rd_of word) (rs1_of word) (rs2_of word) }
 {
     match field(word, 25, 7) {
         0x00 => op_32_base(word),
@@ -298,7 +302,9 @@ fn op_32_mul(word: u32) -> Option<Instr>
 /// Opcode MISC-MEM.
 #[tactic(auto, unfolding(crate::specs::Decoding::misc_mem))]
 fn misc_mem(word: u32) -> Option<Instr>
-    ensures { result ≡ misc_mem (funct3_of word) (bits word 28 4) (bits word 24 4) (bits word 20 4) (rs1_of word) (rd_of word) }
+    ensures { result
+        ≡ misc_mem (funct3_of word) (bits word 28 4) (bits word 24 4) (bits word 20 4)
+        (rs1_of word) (rd_of word) }
 {
     match funct3(word) {
         0 => Some(Instr::Fence {
