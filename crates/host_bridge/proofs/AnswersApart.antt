@@ -1,10 +1,9 @@
 -- Two runs that differ at most in what the last call gave end in one way, where an event is due.
-use Rattle.std.proofs.Common.{◌≡◌, ◌∙◌, ℕ, ◌+◌, ◌-◌, ◌<◌, List, [], ◌∷◌, get_or, Option, Some, None, Result, Ok, Err, arith, refl, sym, ap, subst}
+use Rattle.std.proofs.Common.{◌≡◌, ◌∙◌, ℕ, ◌-◌, ◌<◌, [], ◌∷◌, Some, None, Result, refl, sym, subst}
 use Rattle.bound_base.specs.declared.ending.Ending.{Ending}
 use Rattle.bound_base.specs.declared.limits.Lane.{Lane}
 use Rattle.native_memory.specs.AddressSpace.{AddressSpace}
-use Rattle.rv_machine.specs.declared.registers.Regs.{Regs}
-use Rattle.host_bridge.specs.SymbolRun.{Call, SymbolState, begun, call_ended}
+use Rattle.host_bridge.specs.SymbolRun.{SymbolState, begun, call_ended}
 use Rattle.host_bridge.specs.SymbolParts.{SymbolRan, SymbolEnds}
 use Rattle.host_bridge.proofs.Events.{Event, Begins, GoesOn, Ends as CallEnds, Moves}
 use Rattle.host_bridge.proofs.Halts.{Pending, InCall, Before, Halts, Finished, NoFuel, Strayed, halts, stops}

@@ -1,5 +1,5 @@
 -- The events of a run, at a state between two calls and at one in a call.
-use Rattle.std.proofs.Common.{◌≡◌, ◌≢◌, ◌∙◌, ℕ, ◌+◌, ◌-◌, ◌<◌, ◌≤◌, List, [], ◌∷◌, get_or, arith, refl, sym, ap, subst, Some, None, Result, Ok, Err}
+use Rattle.std.proofs.Common.{◌≡◌, ◌≢◌, ◌∙◌, ℕ, ◌-◌, ◌<◌, List, [], ◌∷◌, get_or, refl, sym, ap, subst, Result, Ok, Err}
 use Rattle.bound_base.specs.declared.ending.Ending.{Ending}
 use Rattle.bound_base.specs.declared.ending.Ending.TheVariants.{Returned, Exited, Unhandled, Spent, Bad, Deep, SinkFailed, InitFault, Memory}
 use Rattle.bound_base.specs.declared.limits.Lane.{Lane}
@@ -9,7 +9,7 @@ use Rattle.native_code.specs.Places.{return_place}
 use Rattle.native_code.specs.Entry.{first_sp, entry_registers}
 use Rattle.native_code.specs.Events.{NativeNext, Continues, Arrives, Faults, native_next}
 use Rattle.native_code.specs.EventAnswers.{GoesOn}
-use Rattle.host_bridge.specs.SymbolRun.{Call, SymbolState, goes, symbol_step, Outcome}
+use Rattle.host_bridge.specs.SymbolRun.{Call, SymbolState, goes, symbol_step}
 use Rattle.host_bridge.specs.SymbolParts.{waiting, running, SymbolRan, SymbolEnds, SymbolPasses, Comes}
 use Rattle.host_bridge.proofs.Events.{Begins, GoesOn as NativeGoesOn, Ends, goes_by}
 use Rattle.host_bridge.proofs.Halts.{InCall, Before, Faulted, Lost, Strays, Finished, NoFuel, Strayed, stops}

@@ -1,14 +1,13 @@
 -- How runs of a symbol end, and where they fault.
-use Rattle.std.proofs.Common.{◌≡◌, ◌∙◌, ℕ, List, Option, Some, None, Result, Ok, Err, refl, sym, ap, subst}
+use Rattle.std.proofs.Common.{◌≡◌, ◌∙◌, ℕ, Some, Result, Err, refl, sym, ap, subst}
 use Rattle.bound_base.specs.declared.ending.Ending.{Ending}
-use Rattle.bound_base.specs.declared.ending.Ending.TheVariants.{Spent, InitFault}
+use Rattle.bound_base.specs.declared.ending.Ending.TheVariants.{InitFault}
 use Rattle.bound_base.specs.declared.limits.Lane.{Lane}
 use Rattle.native_memory.specs.AddressSpace.{AddressSpace}
 use Rattle.rv_machine.specs.declared.registers.Regs.{Regs}
-use Rattle.native_code.specs.Events.{NativeNext, Arrives, Faults, native_next}
+use Rattle.native_code.specs.Events.{NativeNext, native_next}
 use Rattle.native_code.proofs.EventPlaces as places
-use Rattle.runs.specs.Machines.{Stops}
-use Rattle.host_bridge.specs.SymbolRun.{SymbolState, symbol_step, Outcome, outcome, start, symbol_run, IsSymbolEnding}
+use Rattle.host_bridge.specs.SymbolRun.{SymbolState, Outcome, start, IsSymbolEnding}
 use Rattle.host_bridge.specs.Laws.{FaultsNameTheirPlace, RunsEndInThreeWays}
 use Rattle.host_bridge.proofs.Halts.{Strays, Faulted, Lost, Halts, Finished, NoFuel, Strayed, halts}
 use Rattle.host_bridge.proofs.Parts.{EndOf, end_of, outcome_of}

@@ -1,6 +1,6 @@
 -- The three kinds of event with which a run goes on, and what each changes.
-use Rattle.std.proofs.Common.{◌≡◌, ◌∙◌, ℕ, ◌+◌, ◌-◌, ◌<◌, Bool, true, false, cond, List, [], ◌∷◌, get_or, Option, Some, None, Result, Ok, Err, nat_eq, arith, refl, sym, ap, subst}
-use Rattle.std.proofs.lemmas.Bool.{eqb-true, eqb-false, eq-eqb, cond-true, cond-false}
+use Rattle.std.proofs.Common.{◌≡◌, ◌∙◌, ℕ, ◌-◌, ◌<◌, Bool, true, false, cond, List, [], ◌∷◌, Option, Some, None, Result, Ok, Err, nat_eq, arith, refl, ap, subst}
+use Rattle.std.proofs.lemmas.Bool.{eqb-true, eqb-false}
 use Rattle.bound_base.specs.declared.ending.Ending.{Ending}
 use Rattle.bound_base.specs.declared.ending.Ending.TheVariants.{Spent, InitFault}
 use Rattle.bound_base.specs.declared.limits.Lane.{Lane}
@@ -11,7 +11,6 @@ use Rattle.native_code.specs.Events.{NativeNext, Continues, Arrives, Faults, nat
 use Rattle.runs.specs.Machines.{Goes, Stops}
 use Rattle.runs.specs.Laws.{TakesFuel}
 use Rattle.host_bridge.specs.SymbolRun.{Call, SymbolState, SymbolNext, goes, begun, call_ended, arrived, turned, fueled, chosen, symbol_step, symbol_machine}
-use Rattle.host_bridge.specs.Laws.{EventsTakeFuel}
 
 -- a call begins, native code goes on, or its call ends
 pub data Event (lane : Lane) (stack : ℕ) (run : SymbolState) : SymbolState → Type 0 where

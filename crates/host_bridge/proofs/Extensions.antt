@@ -1,11 +1,9 @@
 -- A run with more calls after its own, and more fuel.
-use Rattle.std.proofs.Common.{◌≡◌, ◌∙◌, ℕ, ◌+◌, ◌-◌, ◌<◌, List, [], ◌∷◌, ◌++◌, get_or, Some, None, arith, refl, sym, ap, subst}
+use Rattle.std.proofs.Common.{◌≡◌, ◌∙◌, ℕ, ◌+◌, ◌-◌, ◌<◌, List, [], ◌++◌, get_or, Some, None, arith, refl, sym, ap, subst}
 use Rattle.bound_base.specs.declared.limits.Lane.{Lane}
-use Rattle.native_memory.specs.AddressSpace.{AddressSpace}
-use Rattle.rv_machine.specs.declared.registers.Regs.{Regs}
 use Rattle.runs.specs.Machines.{Goes}
-use Rattle.runs.proofs.Simulations.{Beside, Along, Led, led}
-use Rattle.host_bridge.specs.SymbolRun.{Call, SymbolState, goes, begun, symbol_step, symbol_machine}
+use Rattle.runs.proofs.Simulations.{Beside, Led, led}
+use Rattle.host_bridge.specs.SymbolRun.{Call, SymbolState, begun, symbol_machine}
 use Rattle.host_bridge.specs.SymbolParts.{SymbolRan}
 use Rattle.host_bridge.proofs.Events.{Event, Begins, GoesOn, Ends, Moves, moves, goes_by, takes_fuel, no_pieces}
 
@@ -28,8 +26,8 @@ pub led_along : (lane : Lane) (stack : ℕ) (R : SymbolState → SymbolState →
 led_along lane stack R along old new other is ran =
     led (symbol_machine lane stack) (symbol_machine lane stack) (takes_fuel lane stack) (takes_fuel lane stack) R
     (λ from to with output log it e.
-        let one = along from to with it (moves lane stack from to output log e) in
-        beside_of lane stack R to with one.0 output log one.1 one.2)
+    let one = along from to with it (moves lane stack from to output log e) in
+    beside_of lane stack R to with one.0 output log one.1 one.2)
     old new other [] [] is ran
 
 abbrev pub extended : List Call → ℕ → SymbolState → SymbolState
@@ -60,9 +58,9 @@ led_extended lane stack extra more run last ran =
     let it : Led (symbol_machine lane stack) (IsExtended extra more) last (extended extra more run) [] [] =
     led_along lane stack (IsExtended extra more)
     (λ old new other is moved.
-        let left : 0 < old.fuel = moved.left in
-        let there : Moves lane stack (extended extra more old) (extended extra more new) =
-        record { left = omega arith; event = extended_event lane stack extra more old new left moved.event } in
-        (extended extra more new, subst (λ (from : SymbolState). Moves lane stack from (extended extra more new)) (sym is) there, refl))
+    let left : 0 < old.fuel = moved.left in
+    let there : Moves lane stack (extended extra more old) (extended extra more new) =
+    record { left = omega arith; event = extended_event lane stack extra more old new left moved.event } in
+    (extended extra more new, subst (λ (from : SymbolState). Moves lane stack from (extended extra more new)) (sym is) there, refl))
     run last (extended extra more run) refl ran in
     subst (λ (to : SymbolState). SymbolRan lane stack (extended extra more run) to) it.beside it.ran

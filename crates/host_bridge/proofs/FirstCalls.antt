@@ -1,21 +1,19 @@
 -- A run begins with its first initializer, and goes on from what that left.
-use Rattle.std.proofs.Common.{◌≡◌, ◌∙◌, ℕ, zero, suc, ◌+◌, ◌-◌, ◌<◌, ◌≤◌, List, [], ◌∷◌, ◌++◌, map, Option, Some, None, Result, Ok, Err, add-zero, arith, refl, sym, ap, subst}
+use Rattle.std.proofs.Common.{◌≡◌, ◌∙◌, ℕ, zero, suc, ◌+◌, ◌≤◌, List, [], ◌∷◌, ◌++◌, map, Some, None, Result, Ok, Err, add-zero, arith, refl, sym, ap, subst}
 use Rattle.bound_base.specs.declared.ending.Ending.{Ending}
-use Rattle.bound_base.specs.declared.ending.Ending.TheVariants.{Spent}
 use Rattle.bound_base.specs.declared.limits.Lane.{Lane}
 use Rattle.native_memory.specs.AddressSpace.{AddressSpace}
-use Rattle.rv_machine.specs.declared.registers.Regs.{Regs}
-use Rattle.runs.specs.Machines.{Goes, Stops, Run, Steps}
+use Rattle.runs.specs.Machines.{Goes, Stops, Run}
 use Rattle.runs.proofs.StepsLaws.{steps_go, steps_none, ended_runs_stay}
 use Rattle.host_bridge.specs.SymbolRun.{Call, SymbolState, SymbolNext, symbol_step, symbol_machine, symbol_steps, Outcome, outcome, initializer, start, symbol_run}
 use Rattle.host_bridge.specs.SymbolParts.{SymbolRan, SymbolEnds}
-use Rattle.host_bridge.specs.Laws.{ComesFirst, InitializersComeFirst}
+use Rattle.host_bridge.specs.Laws.{InitializersComeFirst}
 use Rattle.host_bridge.proofs.Parts.{EndOf, end_of, ends_after, outcome_of}
 use Rattle.host_bridge.proofs.Events.{Event, Begins, GoesOn, Ends as CallEnds, moves}
-use Rattle.host_bridge.proofs.Halts.{Pending, InCall, Before, Halts, Finished, NoFuel, Strayed, halts, stops}
+use Rattle.host_bridge.proofs.Halts.{Pending, InCall, Before, Halts, Finished, NoFuel, Strayed, halts}
 use Rattle.host_bridge.proofs.Extensions.{extended, led_extended}
 use Rattle.host_bridge.proofs.MoreFuel.{ends_extended}
-use Rattle.host_bridge.proofs.AnswersApart.{Alike, Apart, ends_alike}
+use Rattle.host_bridge.proofs.AnswersApart.{Apart, ends_alike}
 
 -- a run that gave something has no call left, and none goes on
 record Done (run : SymbolState) : Type 0 where

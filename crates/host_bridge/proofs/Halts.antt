@@ -1,14 +1,13 @@
 -- Where a run stops, and why.
-use Rattle.std.proofs.Common.{◌≡◌, ◌≢◌, ◌∙◌, ℕ, ◌+◌, ◌-◌, ◌<◌, Bool, true, false, cond, List, [], ◌∷◌, get_or, Option, Some, None, Result, Ok, Err, nat_eq, arith, refl, sym, ap, subst}
+use Rattle.std.proofs.Common.{◌≡◌, ◌≢◌, ◌∙◌, ℕ, ◌-◌, ◌<◌, Bool, true, false, cond, List, [], ◌∷◌, Option, Some, None, Result, Ok, Err, nat_eq, arith, refl, sym, ap, subst}
 use Rattle.std.proofs.lemmas.Bool.{eqb-true, eqb-false, ne_eqb, cond-false}
 use Rattle.bound_base.specs.declared.ending.Ending.{Ending}
 use Rattle.bound_base.specs.declared.ending.Ending.TheVariants.{Spent, InitFault}
 use Rattle.bound_base.specs.declared.limits.Lane.{Lane}
-use Rattle.native_memory.specs.AddressSpace.{AddressSpace}
 use Rattle.rv_machine.specs.declared.registers.Regs.{Regs}
 use Rattle.native_code.specs.Places.{return_place}
 use Rattle.native_code.specs.Events.{NativeNext, Continues, Arrives, Faults, native_next}
-use Rattle.runs.specs.Machines.{Goes, Stops}
+use Rattle.runs.specs.Machines.{Stops}
 use Rattle.host_bridge.specs.SymbolRun.{Call, SymbolState, SymbolNext, goes, begun, call_ended, arrived, turned, fueled, chosen, symbol_step}
 use Rattle.host_bridge.proofs.Events.{chosen_at, fuel_left, goes_not_stops}
 

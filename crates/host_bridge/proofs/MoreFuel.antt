@@ -1,10 +1,10 @@
 -- A run that its fuel doesn't end is the same with more fuel.
-use Rattle.std.proofs.Common.{◌≡◌, ◌≢◌, ◌∙◌, ℕ, ◌+◌, ◌<◌, List, [], ◌∷◌, ◌++◌, map, append-nil, Result, Ok, Err, arith, refl, sym, ap, subst}
+use Rattle.std.proofs.Common.{◌≡◌, ◌≢◌, ◌∙◌, ℕ, ◌+◌, List, [], ◌∷◌, ◌++◌, map, append-nil, Result, Err, arith, refl, sym, ap, subst}
 use Rattle.bound_base.specs.declared.ending.Ending.{Ending}
 use Rattle.bound_base.specs.declared.ending.Ending.TheVariants.{Spent}
 use Rattle.bound_base.specs.declared.limits.Lane.{Lane}
 use Rattle.native_memory.specs.AddressSpace.{AddressSpace}
-use Rattle.host_bridge.specs.SymbolRun.{Call, SymbolState, Outcome, outcome, initializer, start, symbol_run}
+use Rattle.host_bridge.specs.SymbolRun.{Call, SymbolState, Outcome, outcome, initializer, start}
 use Rattle.host_bridge.specs.SymbolParts.{SymbolEnds}
 use Rattle.host_bridge.specs.Laws.{MoreFuelIsTheSame}
 use Rattle.host_bridge.proofs.Parts.{EndOf, end_of, outcome_of}

@@ -1,10 +1,10 @@
 -- Runs of a symbol as runs of any machine.
-use Rattle.std.proofs.Common.{◌≡◌, ◌∙◌, ℕ, ◌+◌, List, [], ◌∷◌, Result, Ok, Err, refl, sym, ap, subst}
+use Rattle.std.proofs.Common.{◌≡◌, ◌∙◌, ℕ, List, [], Result, refl, ap, subst}
 use Rattle.bound_base.specs.declared.ending.Ending.{Ending}
 use Rattle.bound_base.specs.declared.limits.Lane.{Lane}
 use Rattle.native_memory.specs.AddressSpace.{AddressSpace}
-use Rattle.runs.specs.Machines.{Run, Stops, Steps}
-use Rattle.runs.specs.Runs.{Ran, Ends}
+use Rattle.runs.specs.Machines.{Run, Stops}
+use Rattle.runs.specs.Runs.{Ends}
 use Rattle.runs.proofs.StepsLaws as steps
 use Rattle.runs.proofs.Parts as parts
 use Rattle.runs.proofs.RunEnds as ends

@@ -1,13 +1,13 @@
 -- What is said of a whole run, from what is said of its calls.
-use Rattle.std.proofs.Common.{◌≡◌, ◌∙◌, ℕ, ◌+◌, ◌<◌, ◌≤◌, List, [], ◌∷◌, ◌++◌, length, get_or, map, drop, add-one, arith, refl, sym, ap, subst, Result, Ok, Err, IfOk, IfErr}
+use Rattle.std.proofs.Common.{◌≡◌, ℕ, ◌+◌, ◌<◌, ◌≤◌, List, [], ◌∷◌, ◌++◌, length, get_or, map, drop, add-one, ap, subst, Result, Ok, Err, IfOk, IfErr}
 use Rattle.std.proofs.Math.Seq.{drop-cons}
 use Rattle.std.proofs.lemmas.List.{drop_all}
 use Rattle.bound_base.specs.declared.ending.Ending.{Ending}
 use Rattle.bound_base.specs.declared.ending.Ending.TheVariants.{Returned, Exited, Unhandled, Spent, Bad, Deep, SinkFailed, InitFault, Memory}
 use Rattle.bound_base.specs.declared.limits.Lane.{Lane}
 use Rattle.native_memory.specs.AddressSpace.{AddressSpace}
-use Rattle.host_bridge.specs.SymbolRun.{Call, SymbolState, Outcome, outcome, initializer}
-use Rattle.host_bridge.specs.SymbolParts.{waiting, SymbolRan, SymbolEnds, Comes, EndsBy}
+use Rattle.host_bridge.specs.SymbolRun.{Call, SymbolState, outcome, initializer}
+use Rattle.host_bridge.specs.SymbolParts.{waiting, SymbolRan, Comes, EndsBy}
 use Rattle.host_bridge.proofs.Parts.{ends_after, outcome_of}
 use Rattle.host_bridge.proofs.CallTurns.{comes_after, finished}
 

@@ -7,7 +7,7 @@ use Rattle.native_memory.specs.AddressSpace.{AddressSpace}
 use Rattle.rv_machine.specs.declared.registers.Regs.{Regs}
 use Rattle.runs.specs.Machines.{Stops}
 use Rattle.runs.specs.Laws as runs
-use Rattle.host_bridge.specs.SymbolRun.{SymbolState, symbol_step, symbol_steps, symbol_machine, Outcome, symbol_run, IsSymbolEnding}
+use Rattle.host_bridge.specs.SymbolRun.{SymbolState, symbol_step, symbol_steps, symbol_machine, symbol_run, IsSymbolEnding}
 
 -- a fault names the pc of the call that goes on
 abbrev pub FaultsNameTheirPlace : Type 0
@@ -44,15 +44,16 @@ MoreFuelIsTheSame =
     → (symbol_run lane stack inits at words fuel space).answer ≢ Err Spent
     → symbol_run lane stack inits at words (fuel + more) space ≡ symbol_run lane stack inits at words fuel space
 
--- Of a run that begins with an initializer, by what this one comes to as a function without arguments: where it gives something,
--- the run is that of the rest, from the memory and the fuel that it left, and nothing else of it; where it doesn't, the run ends so.
+-- Of a run that begins with an initializer, by what this one comes to as a function without
+-- arguments: where it gives something, the run is that of the rest, from the memory and the fuel
+-- that it left, and nothing else of it; where it doesn't, the run ends so.
 pub record ComesFirst (lane : Lane) (stack init : ℕ) (inits : List ℕ) (at : ℕ) (words : List ℕ) (fuel : ℕ) (space : AddressSpace)
     : Type 0 where
   pub gives : (answer : ℕ) (after : AddressSpace)
       → symbol_run lane stack [] init [] fuel space ≡ record { answer = Ok answer; space = after }
       → (left : ℕ) × (left + 2 ≤ fuel) × ((more : ℕ)
-          → symbol_run lane stack (init ∷ inits) at words (fuel + more) space
-            ≡ symbol_run lane stack inits at words (left + more) after)
+      → symbol_run lane stack (init ∷ inits) at words (fuel + more) space
+      ≡ symbol_run lane stack inits at words (left + more) after)
   pub ends : (ending : Ending) (after : AddressSpace)
       → symbol_run lane stack [] init [] fuel space ≡ record { answer = Err ending; space = after }
       → symbol_run lane stack (init ∷ inits) at words fuel space ≡ record { answer = Err ending; space = after }

@@ -1,12 +1,12 @@
 -- Parts of a run of a symbol, and what the code says of them.
-use Rattle.std.specs.Prelude.{◌≡◌, ℕ, List, [], Option, Some, None, Result, Ok, Err}
+use Rattle.std.specs.Prelude.{◌≡◌, ℕ, List, [], Some, None, Result, Ok, Err}
 use Rattle.bound_base.specs.declared.ending.Ending.{Ending}
 use Rattle.bound_base.specs.declared.ending.Ending.TheVariants.{Returned, Exited, Unhandled, Spent, Bad, Deep, SinkFailed, InitFault, Memory}
 use Rattle.bound_base.specs.declared.limits.Lane.{Lane}
 use Rattle.native_memory.specs.AddressSpace.{AddressSpace}
 use Rattle.rv_machine.specs.declared.registers.Regs.{Regs}
 use Rattle.runs.specs.Runs.{Ran, Ends}
-use Rattle.host_bridge.specs.SymbolRun.{Call, SymbolState, goes, symbol_step, symbol_machine, Outcome, outcome}
+use Rattle.host_bridge.specs.SymbolRun.{Call, SymbolState, goes, symbol_step, symbol_machine, outcome}
 
 -- a state between two calls, and one in a call
 abbrev pub waiting : List Call → ℕ → AddressSpace → ℕ → SymbolState
@@ -40,8 +40,9 @@ pub record SymbolPasses (lane : Lane) (stack : ℕ) (old : SymbolState) (space :
   pub would_go : symbol_step lane stack between ≡ goes next
   pub at_end : between.space ≡ space
 
--- By the code's answer: the run has come to the state of that answer, or ends with the memory that this state would have. Where
--- memory was wanting, it has passed a state with this memory, and would go on.
+-- By the code's answer: the run has come to the state of that answer, or ends with the memory that
+-- this state would have. Where memory was wanting, it has passed a state with this memory, and
+-- would go on.
 abbrev pub Comes : Lane → ℕ → Result ℕ Ending → SymbolState → (ℕ → SymbolState) → Type 0
 Comes lane stack (Ok answer) old new = SymbolRan lane stack old (new answer)
 Comes lane stack (Err Spent) old new = SymbolEnds lane stack old (Err Spent) (new 0).space
@@ -54,8 +55,9 @@ Comes lane stack (Err (Bad token at)) old new = ⊥
 Comes lane stack (Err Deep) old new = ⊥
 Comes lane stack (Err SinkFailed) old new = ⊥
 
--- Why a run has no answer, with the memory that it leaves: it ends so by the definition; or memory was wanting, and it leaves that
--- of a state that it passed, where it would go on. No other ending comes.
+-- Why a run has no answer, with the memory that it leaves: it ends so by the definition; or memory
+-- was wanting, and it leaves that of a state that it passed, where it would go on. No other ending
+-- comes.
 abbrev pub EndsBy : Ending → Lane → ℕ → SymbolState → AddressSpace → Type 0
 EndsBy Spent lane stack old space = outcome lane stack old ≡ record { answer = Err Spent; space = space }
 EndsBy (InitFault pc) lane stack old space = outcome lane stack old ≡ record { answer = Err (InitFault pc); space = space }

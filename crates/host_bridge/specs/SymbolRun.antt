@@ -1,5 +1,6 @@
--- The run of a symbol: the initializers of libraries, and then a function, by calls that no import makes.
-use Rattle.std.specs.Prelude.{◌≡◌, ℕ, ◌-◌, List, [], ◌∷◌, ◌++◌, map, slice_index, Option, Some, None, Result, Ok, Err, ◌==◌, if◌then◌else◌}
+-- The run of a symbol: the initializers of libraries, and then a function, by calls that no import
+-- makes.
+use Rattle.std.specs.Prelude.{ℕ, ◌-◌, List, [], ◌∷◌, ◌++◌, map, slice_index, Option, Some, None, Result, Ok, Err, ◌==◌, if◌then◌else◌}
 use Rattle.bound_base.specs.declared.ending.Ending.{Ending}
 use Rattle.bound_base.specs.declared.ending.Ending.TheVariants.{Returned, Exited, Unhandled, Spent, Bad, Deep, SinkFailed, InitFault, Memory}
 use Rattle.bound_base.specs.declared.limits.Lane.{Lane}
@@ -16,8 +17,8 @@ pub record Call : Type 0 where
   pub at : ℕ
   pub words : List ℕ
 
--- The state between events: the calls that haven't begun, the registers of the call that goes on, a0 at the end of the last one,
--- memory, and how many events may still come.
+-- The state between events: the calls that haven't begun, the registers of the call that goes on,
+-- a0 at the end of the last one, memory, and how many events may still come.
 pub record SymbolState : Type 0 where
   pub calls : List Call
   pub native : Option Regs
@@ -45,7 +46,8 @@ begun lane stack run call rest =
 abbrev pub call_ended : SymbolState → Regs → SymbolState
 call_ended run regs = record run { native = None; answer = slice_index regs.x first_argument_register; fuel = run.fuel - 1 }
 
--- native code has come to a place below memory: the return place ends its call, and each other one is a fault
+-- native code has come to a place below memory: the return place ends its call, and each other one
+-- is a fault
 abbrev pub arrived : SymbolState → Regs → ℕ → SymbolNext
 arrived run regs place = if place == return_place then goes (call_ended run regs) else Stops (Err (InitFault place))
 
@@ -65,7 +67,8 @@ chosen lane stack run (Some regs) calls = fueled run.fuel (turned run regs (nati
 chosen lane stack run None (call ∷ rest) = fueled run.fuel (goes (begun lane stack run call rest))
 chosen lane stack run None [] = Stops (Ok run.answer)
 
--- one event, where the blocks that native code is entered with are these, and the stack has so many bytes
+-- one event, where the blocks that native code is entered with are these, and the stack has so many
+-- bytes
 unfoldable pub symbol_step : Lane → ℕ → SymbolState → SymbolNext
 symbol_step lane stack run = chosen lane stack run run.native run.calls
 

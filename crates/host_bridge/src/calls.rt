@@ -11,13 +11,16 @@ use native_memory::Memory;
 use rv_machine::Regs;
 use std::alloc::Global;
 
-/// Runs the initializers at `inits` in order, then the function at `at` with its argument words, and gives a0 as the function
-/// left it. Each starts with the stack of `stack` bytes empty, `ra` at the return place, and 0 in the other registers.
+/// Runs the initializers at `inits` in order, then the function at `at` with its argument words,
+/// and gives a0 as the function left it. Each starts with the stack of `stack` bytes empty, `ra` at
+/// the return place, and 0 in the other registers.
 ///
-/// Each instruction and each host function is one event, and so are the beginning and the end of each call. `Spent` comes where as
-/// many events as `fuel` don't end the run. `InitFault` comes where an instruction or a host function faults before that, or
-/// native code comes to a place below memory that no call returns to, and names its address. With either, `memory` is as the last
-/// event left it. `Memory` comes where an event wants memory, with which the run would go on there; no other ending comes.
+/// Each instruction and each host function is one event, and so are the beginning and the end of
+/// each call. `Spent` comes where as many events as `fuel` don't end the run. `InitFault` comes
+/// where an instruction or a host function faults before that, or native code comes to a place
+/// below memory that no call returns to, and names its address. With either, `memory` is as the
+/// last event left it. `Memory` comes where an event wants memory, with which the run would go on
+/// there; no other ending comes.
 pub fn run_calls(
     alloc: Global,
     lane: Lane,

@@ -1,8 +1,13 @@
 //! Laws of runs of a symbol: each function's contract is one.
 
 ghost use Rattle.host_bridge.specs.Laws.{
-    FaultsNameTheirPlace, EventsTakeFuel, RunsEnd, RunsEndInThreeWays, EndedRunsStay,
-    MoreFuelIsTheSame, InitializersComeFirst
+  FaultsNameTheirPlace,
+  EventsTakeFuel,
+  RunsEnd,
+  RunsEndInThreeWays,
+  EndedRunsStay,
+  MoreFuelIsTheSame,
+  InitializersComeFirst,
 };
 
 /// A fault names the address of the instruction, or the place where native code has come to.
@@ -35,8 +40,8 @@ pub fn more_fuel_is_the_same()
     ensures { MoreFuelIsTheSame }
 {}
 
-/// Initializers run in order, each from fresh registers: of the first, the rest of the run sees the memory and the fuel that it
-/// left, and nothing else.
+/// Initializers run in order, each from fresh registers: of the first, the rest of the run sees the
+/// memory and the fuel that it left, and nothing else.
 pub fn initializers_come_first()
     ensures { InitializersComeFirst }
 {}

@@ -21,8 +21,9 @@ const LANE: Lane = Lane {
 /// The bytes of the stack.
 const STACK: u64 = 1_048_576;
 
-/// Runs the initializers of libraries that are bound in this memory, then the function at `at` with its argument words, and gives
-/// a0 as the function left it. The blocks of native code are those that are placed first in memory.
+/// Runs the initializers of libraries that are bound in this memory, then the function at `at` with
+/// its argument words, and gives a0 as the function left it. The blocks of native code are those
+/// that are placed first in memory.
 ///
 /// The errors are those of `run_calls`.
 pub fn run_symbol(
@@ -39,7 +40,7 @@ pub fn run_symbol(
         ≡ record { answer = Ok answer; space = memory.new.space }) }
     ensures err { IfErr result (λ ending.
         EndsBy ending first_lane standard.stack
-            (start bound.now.inits at words.now fuel memory.old.space) memory.new.space) }
+        (start bound.now.inits at words.now fuel memory.old.space) memory.new.space) }
 {
     run_calls(alloc, LANE, STACK, bound.inits(), memory, at, words, fuel)
 }

@@ -24,7 +24,8 @@ abbrev pub with_words : ℕ → List ℕ → List ℕ → List ℕ
 with_words k x [] = x
 with_words k x (word ∷ words) = with_words (k + 1) (with_word x (place_of k) word) words
 
--- the registers at an entry before argument words: it will return to the return place, and all others are 0
+-- the registers at an entry before argument words: it will return to the return place, and all
+-- others are 0
 abbrev pub bare_registers : ℕ → List ℕ
 bare_registers sp = 0 ∷ return_place ∷ sp ∷ replicate 29 0
 

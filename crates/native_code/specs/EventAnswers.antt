@@ -12,8 +12,8 @@ GoesOn (Continues _ _) = Unit {0}
 GoesOn (Arrives _) = ⊥
 GoesOn (Faults _) = ⊥
 
--- by its answer, what native code comes to, with the registers and the memory after it; memory is wanting only where native
--- code would go on
+-- by its answer, what native code comes to, with the registers and the memory after it; memory is
+-- wanting only where native code would go on
 abbrev pub EventIs : Event → NativeNext → Regs → AddressSpace → Type 0
 EventIs Went next regs memory = next ≡ Continues regs memory
 EventIs (Arrived place) next regs memory = next ≡ Arrives place

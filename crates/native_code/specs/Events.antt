@@ -9,8 +9,8 @@ use Rattle.rv_machine.specs.declared.registers.Regs.{Regs}
 use Rattle.rv_machine.specs.Machine.{State, state_of, rv_step}
 use Rattle.native_code.specs.Entry.{return_register}
 
--- native code goes on with these registers and this memory; it has come to a place below memory at which no host function
--- stands; or it faults, at this pc
+-- native code goes on with these registers and this memory; it has come to a place below memory at
+-- which no host function stands; or it faults, at this pc
 pub data NativeNext : Type 0 where
   Continues : Regs → AddressSpace → NativeNext
   Arrives : ℕ → NativeNext
@@ -36,7 +36,8 @@ after_step errno Went s = Continues (record { pc = s.pc; x = s.x }) s.memory
 after_step errno (At place) s = at_place errno place s.x s.memory (number_at place)
 after_step errno (Fault _) s = Faults s.pc
 
--- what native code comes to in one event, where `errno` is the address of the number of the last error
+-- what native code comes to in one event, where `errno` is the address of the number of the last
+-- error
 unfoldable pub native_next : ℕ → Regs → AddressSpace → NativeNext
 native_next errno regs memory =
     let stepped : Step × State = rv_step (state_of regs memory) in after_step errno stepped.0 stepped.1

@@ -27,7 +27,8 @@ ArrivalsNameTheirPlace =
     (errno : ℕ) (regs : Regs) (memory : AddressSpace) (place : ℕ)
     → native_next errno regs memory ≡ Arrives place → IsArrival regs.pc place
 
--- the registers at an entry: a word that the convention passes in a register is there, ra and sp are set, all others are 0
+-- the registers at an entry: a word that the convention passes in a register is there, ra and sp
+-- are set, all others are 0
 pub record IsEntry (at sp : ℕ) (words : List ℕ) (regs : Regs) : Type 0 where
   pub pc : regs.pc ≡ at
   pub count : length regs.x ≡ 32
@@ -40,8 +41,8 @@ pub record IsEntry (at sp : ℕ) (words : List ℕ) (regs : Regs) : Type 0 where
 abbrev pub EntriesHoldWords : Type 0
 EntriesHoldWords = (at sp : ℕ) (words : List ℕ) → IsEntry at sp words (entry_registers at sp words)
 
--- of memory, an event of native code places, ends and changes heap blocks alone: all others stay, but
--- for their bytes, and addresses of ended blocks stay free
+-- of memory, an event of native code places, ends and changes heap blocks alone: all others stay,
+-- but for their bytes, and addresses of ended blocks stay free
 abbrev pub EventsKeepOthers : Type 0
 EventsKeepOthers =
     (errno : ℕ) (regs regs' : Regs) (old new : AddressSpace) → IsSound old

@@ -15,9 +15,9 @@ const RA: usize = 1;
 /// `sp`, the stack pointer.
 const SP: usize = 2;
 
-/// The registers at an entry of native code at an address, with a stack pointer and argument words. Words for which the convention
-/// has a register are there, and the others are for the caller to put on the stack. It will return to `RETURN`. All other registers
-/// are 0.
+/// The registers at an entry of native code at an address, with a stack pointer and argument words.
+/// Words for which the convention has a register are there, and the others are for the caller to
+/// put on the stack. It will return to `RETURN`. All other registers are 0.
 pub fn entry_registers(at: u64, sp: u64, words: &[u64]) -> Regs
     requires { length words.now < 2 ^ 32 }
     ensures { result ≡ entry_registers at sp words.now }
@@ -31,7 +31,8 @@ pub fn entry_registers(at: u64, sp: u64, words: &[u64]) -> Regs
     Regs { pc: at, x }
 }
 
-/// The stack pointer of an outermost entry on a stack block of so many bytes: the greatest multiple of 16 not above its end.
+/// The stack pointer of an outermost entry on a stack block of so many bytes: the greatest multiple
+/// of 16 not above its end.
 pub fn first_sp(lane: Lane, stack: u64) -> u64
     requires { stack_top lane stack < 2 ^ 64 }
     ensures { result ≡ first_sp lane stack }

@@ -17,8 +17,8 @@ pub fn arrivals_name_their_place()
     ensures { ArrivalsNameTheirPlace }
 {}
 
-/// In an event, blocks come and go as heap blocks alone; all others stay, but for their bytes, and what is
-/// free stays free.
+/// In an event, blocks come and go as heap blocks alone; all others stay, but for their bytes, and
+/// what is free stays free.
 pub fn events_keep_others()
     ensures { EventsKeepOthers }
 {}

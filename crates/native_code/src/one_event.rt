@@ -16,8 +16,8 @@ use std::alloc::Global;
 pub enum Event {
     /// An instruction or a host function was done.
     Went,
-    /// `pc` is this place below memory, at which no host function stands. What it means there is for the caller to say: a
-    /// return, or a fault.
+    /// `pc` is this place below memory, at which no host function stands. What it means there is
+    /// for the caller to say: a return, or a fault.
     Arrived(u64),
     /// The instruction at `pc`, which is this address, faults, or the host function there.
     Faulted(u64),
@@ -25,11 +25,11 @@ pub enum Event {
     Memory,
 }
 
-/// Does the instruction or the host function at `pc`. `errno` is the address of the number of the last
-/// error.
+/// Does the instruction or the host function at `pc`. `errno` is the address of the number of the
+/// last error.
 ///
-/// Where the answer isn't `Went`, registers and memory are as they were. `Memory` comes only where the host
-/// function at `pc` takes some, and native code would go on after it.
+/// Where the answer isn't `Went`, registers and memory are as they were. `Memory` comes only where
+/// the host function at `pc` takes some, and native code would go on after it.
 #[tactic(auto, unfolding(crate::specs::Events::native_next))]
 pub fn native_event(alloc: Global, errno: u64, regs: &mut Regs, memory: &mut Memory) -> Event
     ensures next { EventIs result (native_next errno regs.old memory.old.space)

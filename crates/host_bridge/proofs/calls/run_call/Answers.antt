@@ -1,4 +1,4 @@
-use Rattle.std.proofs.Common.{◌≡◌, ◌<◌, ◌∙◌, arith, ap}
+use Rattle.std.proofs.Common.{◌∙◌, arith, ap}
 use Rattle.native_code.specs.Entry.{entry_registers}
 use Rattle.host_bridge.specs.SymbolRun.{Call}
 use Rattle.host_bridge.proofs.CallTurns.{begins, comes_after, spent_waiting}

@@ -1,7 +1,6 @@
-use Rattle.std.proofs.Common.{◌≡◌, ◌<◌, ◌≤◌, ◌+◌, List, [], ◌∷◌, ◌++◌, map, drop, arith, refl, sym}
+use Rattle.std.proofs.Common.{◌+◌, [], ◌∷◌, ◌++◌, map, drop}
 use Rattle.std.proofs.lemmas.Result.{err_from_is_err_and}
-use Rattle.host_bridge.specs.SymbolRun.{Call, initializer, start}
-use Rattle.host_bridge.specs.SymbolParts.{waiting}
+use Rattle.host_bridge.specs.SymbolRun.{Call, initializer}
 use Rattle.host_bridge.proofs.Parts.{ran_none, ran_more}
 use Rattle.host_bridge.proofs.WholeRuns.{initializers_from, initializers_end, waits_at, ends_in, last_ok, last_err}
 use Rattle.host_bridge.proofs.calls.run_calls.Goals as goal
