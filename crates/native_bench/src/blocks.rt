@@ -1,7 +1,6 @@
 //! Many blocks, placed and ended.
 
-use crate::rights::DATA;
-use native_memory::{Kind, Memory};
+use native_memory::{DATA_RIGHTS, Kind, Memory};
 use std::alloc::Global;
 
 const BLOCKS: u64 = 200_000;
@@ -49,7 +48,7 @@ pub fn print(rt: &(impl Print + AllocGlobal), order: Order) -> anyhow::Result<()
 fn placed(alloc: Global, memory: &mut Memory) -> anyhow::Result<Vec<u64>> {
     let mut bases = Vec::new(alloc);
     for _ in 0..BLOCKS {
-        bases.push(memory.place(1, DATA, Kind::Heap)?)?;
+        bases.push(memory.place(1, DATA_RIGHTS, Kind::Heap)?)?;
     }
     Ok(bases)
 }

@@ -2,9 +2,8 @@
 
 ghost use Rattle.std.specs.Prelude.{◌<◌, ◌≤◌};
 
-use crate::rights::DATA;
 use anyhow::ensure;
-use native_memory::{Kind, Memory};
+use native_memory::{DATA_RIGHTS, Kind, Memory};
 use std::alloc::Global;
 
 /// How many blocks on the next read is: a prime, so that all are read in turn.
@@ -24,10 +23,10 @@ pub fn print(rt: &(impl Print + AllocGlobal), blocks: u64, reads: u64) -> anyhow
     Ok(())
 }
 
-/// Places blocks of one byte. Each stands 32 bytes behind the one before.
+/// Places blocks of one byte. Each stands 32 bytes after the one before.
 fn place(memory: &mut Memory, blocks: u64) -> anyhow::Result<()> {
     for number in 0..blocks {
-        let base = memory.place(1, DATA, Kind::Heap)?;
+        let base = memory.place(1, DATA_RIGHTS, Kind::Heap)?;
         memory.write(base, &[(number % 256) as u8])?;
     }
     Ok(())

@@ -7,9 +7,3 @@ pub const CODE: Rights = Rights {
     w: false,
     x: true,
 };
-
-pub const DATA: Rights = Rights {
-    r: true,
-    w: true,
-    x: false,
-};

@@ -1,8 +1,8 @@
 //! Ten million steps of the machine, in a loop of ten instructions.
 
-use crate::rights::{CODE, DATA};
+use crate::rights::CODE;
 use anyhow::ensure;
-use native_memory::{Kind, Memory};
+use native_memory::{DATA_RIGHTS, Kind, Memory};
 use rv_machine::{Regs, Step, step};
 use std::alloc::Global;
 
@@ -59,7 +59,7 @@ fn start(alloc: Global, memory: &mut Memory) -> anyhow::Result<Regs> {
     let pc = memory.edge();
     memory.place_at(pc, code.as_slice(), code.len() as u64, CODE)?;
     let mut x = [0; 32];
-    x[SP] = memory.place(STACK, DATA, Kind::Stack)?;
+    x[SP] = memory.place(STACK, DATA_RIGHTS, Kind::Stack)?;
     x[A2] = TURNS;
     x[A3] = FACTOR;
     Ok(Regs { pc, x })

@@ -20,6 +20,3 @@ mod texts;
 
 pub use calls::{Regs0, call};
 pub use refusal::HeapBad;
-
-#[cfg(test)]
-mod tests;

@@ -21,6 +21,3 @@ pub use laws::{
 pub use memory::Memory;
 pub use rights::DATA_RIGHTS;
 pub use steps::Steps;
-
-#[cfg(test)]
-mod tests;

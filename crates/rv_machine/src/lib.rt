@@ -17,6 +17,3 @@ mod words;
 pub use outcome::Step;
 pub use registers::Regs;
 pub use stepping::step;
-
-#[cfg(test)]
-mod tests;

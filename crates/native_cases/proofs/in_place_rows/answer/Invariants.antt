@@ -1,4 +1,4 @@
-use Rattle.native_memory.proofs.tests.an_address_is_found_in_its_block.Given as goal
+use Rattle.native_cases.proofs.in_place_rows.answer.Given as goal
 
 -- the ledger that the blank stands for
 abbrev pub ghosts-find : goal.ghosts-find
