@@ -1,17 +1,17 @@
--- What is read at a place or behind it depends on the bytes from there on alone.
-use Rattle.std.proofs.Common.{◌≡◌, ℕ, zero, suc, ◌+◌, ◌-◌, ◌<◌, ◌≤◌, Bool, ◌||◌, not, List, length, take, drop, map, Option, Some, None, Result, Ok, refl, sym, ap, ◌∙◌, inl, inr, arith}
+-- What is read at a place or after it depends on the bytes from there on alone.
+use Rattle.std.proofs.Common.{◌≡◌, ℕ, zero, suc, ◌+◌, ◌-◌, ◌<◌, ◌≤◌, Bool, List, length, take, drop, map, Option, Some, None, Result, Ok, refl, sym, ap, ◌∙◌, inl, inr, arith}
 use Rattle.std.specs.Prelude.{if◌then◌else◌, nat_le, ◌==◌, slice_range, slice_get, slice_index}
 use Rattle.std.specs.List.{range_with_len}
 use Rattle.std.specs.Option.{ok_or}
-use Rattle.byte_view.specs.Columns.{Column, columns, width, is_table, table_numbers}
+use Rattle.byte_view.specs.Columns.{Column, columns, width, table_numbers}
 use Rattle.byte_view.specs.Metadata.{cell_place, cell_value, row_numbers, row_at, tables_in}
-use Rattle.byte_view.specs.Assembly.{metadata_in, metadata, assembly}
+use Rattle.byte_view.specs.Assembly.{metadata_in, assembly}
 use Rattle.byte_view.proofs.Images.{assembly_is}
 use Rattle.byte_view.specs.Laws.{LieApart, HeadersAndMetadataDecide}
 use Rattle.byte_view.specs.Layout.{header, Layout, is_present, count_place, row_count, start_of, layout}
 use Rattle.std.proofs.lemmas.List.{drop-drop, drop-take, length-take-le}
 use Rattle.byte_view.specs.Numbers.{le}
-use Rattle.byte_view.specs.Reading.{Broken, must, field, field_where, listed, each}
+use Rattle.byte_view.specs.Reading.{Broken, field, field_where, listed}
 use Rattle.byte_view.specs.Parts as parts
 use Rattle.byte_view.specs.Heaps.{text_at}
 use Rattle.byte_view.specs.Headers.{Headers, headers}
@@ -76,7 +76,7 @@ root_same at a b same =
     bind_same _ _ _ _ (within_same (at + 16) at parts.metadata_root (at + 12) 4 a b same (omega arith)) (λ len _.
     bind_same _ _ _ _ (field_same at parts.metadata_root (at + 16 + len + 2) 2 a b same (omega arith)) (λ count _. refl)))
 
--- the first stream header lies behind the root
+-- the first stream header lies after the root
 pub root_before : (image : List ℕ) (at : ℕ) (x : ℕ × ℕ) → root image at ≡ Ok x → at ≤ x.1
 unfolding root
 root_before image at x e =
@@ -148,7 +148,7 @@ cell_same start table row column a b l None same h = refl
 cell_same start table row column a b l (Some kind) same h =
     le_same start (cell_place l table row column) (width l.heap_sizes l.rows kind) a b same (omega arith)
 
--- the rows of a stream whose tables lie behind its start
+-- the rows of a stream whose tables lie after its start
 pub tables_same : (start : ℕ) (a b : List ℕ) (l : Layout) → AgreeFrom start a b → ((table : ℕ) → table < table_numbers → start ≤ slice_index l.starts table) → tables_in a l ≡ tables_in b l
 unfolding tables_in row_at
 tables_same start a b l same behind =
@@ -157,11 +157,11 @@ tables_same start a b l same behind =
     map_same _ _ 0 row_numbers (λ column _ _.
     cell_same start table row column a b l (slice_get (columns table) column) same (behind table (omega arith)))))
 
--- each table begins behind the start of the stream
+-- each table begins after the start of the stream
 starts_behind : (image : List ℕ) (start : ℕ) (l : Layout) → LieApart image start l → (table : ℕ) → table < table_numbers → start ≤ slice_index l.starts table
-starts_behind image start l apart zero h = let first = apart.behind_header in omega arith
+starts_behind image start l apart zero h = let first = apart.after_header in omega arith
 starts_behind image start l apart (suc table) h =
-    let first = apart.behind_header in
+    let first = apart.after_header in
     let before = starts_behind image start l apart table (omega arith) in
     let follows = apart.apart table (suc table) (omega arith) h in
     omega arith

@@ -52,7 +52,7 @@ last_end_pushed [] load = refl
 last_end_pushed (first ∷ []) load = refl
 last_end_pushed (first ∷ next ∷ more) load = last_end_pushed (next ∷ more) load
 
--- loads by their places, with the end of the last behind the ends of all
+-- loads by their places, with the end of the last after the ends of all
 record Ascend (bytes : List ℕ) (loads : List Load) : Type 0 where
   pub whole : (k : ℕ) (load : Load) → slice_get loads k ≡ Some load → IsWhole bytes load
   pub below_last : (k : ℕ) (load : Load) → slice_get loads k ≡ Some load → end_of load ≤ last_end loads

@@ -1,5 +1,5 @@
 -- An error that refuses a step refuses all that is made of it: for readers whose errors say the definition's refusals.
-use Rattle.std.proofs.Common.{◌≡◌, ℕ, zero, suc, ◌+◌, ◌<◌, ◌≤◌, List, Option, Some, None, Result, Ok, Err, refl, ◌∙◌, add-one, inl, inr, arith}
+use Rattle.std.proofs.Common.{◌≡◌, ℕ, zero, suc, ◌+◌, ◌<◌, ◌≤◌, List, Option, Some, None, Result, Ok, Err, ◌∙◌, add-one, inl, inr, arith}
 use Rattle.std.proofs.lemmas.Bool.{cases_lt}
 use Rattle.byte_view.specs.Reading.{◌>>=◌, each, listed, RefusedBy, Refuses}
 use Rattle.byte_view.proofs.Reading.{bind_err, bind_read, each_fails, listed_fails}

@@ -1,12 +1,12 @@
 -- The tables of a stream lie one after another.
-use Rattle.std.proofs.Common.{◌≡◌, ℕ, zero, suc, ◌+◌, ◌<◌, ◌≤◌, List, length, ◌||◌, not, Ok, refl, sym, ap, ◌∙◌, subst, inl, inr, arith}
+use Rattle.std.proofs.Common.{◌≡◌, ℕ, zero, suc, ◌+◌, ◌<◌, ◌≤◌, List, length, Ok, refl, sym, ap, ◌∙◌, subst, inl, inr, arith}
 use Rattle.std.specs.Prelude.{nat_le, slice_index}
 use Rattle.std.proofs.lemmas.Bool.{cases_lt, leb-true}
 use Rattle.byte_view.specs.Numbers.{le}
-use Rattle.byte_view.specs.Reading.{must, listed, each}
+use Rattle.byte_view.specs.Reading.{must, listed}
 use Rattle.byte_view.specs.Parts as parts
-use Rattle.byte_view.specs.Columns.{is_table, table_numbers}
-use Rattle.byte_view.specs.Layout.{header, Layout, is_present, count_place, row_count, table_start, start_of, layout}
+use Rattle.byte_view.specs.Columns.{table_numbers}
+use Rattle.byte_view.specs.Layout.{header, Layout, count_place, row_count, table_start, start_of, layout}
 use Rattle.byte_view.specs.Laws.{table_end, TablesOfStreamLieApart}
 use Rattle.byte_view.proofs.Reading.{bind_then, same_read, must_ok, chosen_ok, listed_at}
 
@@ -82,7 +82,7 @@ tables_lie_apart image start l e =
     let same : table + 1 ≡ suc table = omega arith in
     sym next.1 ∙ ap (table_start start valid l.heap_sizes l.rows) same ∙ ends_at image start l laid table (omega arith) in
     record {
-      behind_header = let first = start_at image start l laid 0 (omega arith) in
+      after_header = let first = start_at image start l laid 0 (omega arith) in
           rw (← first.1) (omega arith);
       follow = follow;
       apart = apart_from l follow;

@@ -9,7 +9,7 @@ use Rattle.std.proofs.lemmas.List.{length-take-le, take-take}
 use Rattle.byte_view.specs.Numbers.{le}
 use Rattle.byte_view.specs.Reading.{field_where}
 use Rattle.byte_view.specs.Parts as parts
-use Rattle.byte_view.specs.Headers.{Section, Headers, front, holds_range, raw_place, file_place, signature_place, section_table, directory_count_place, cli_directory, sections_of, cli_header_place, metadata_place, headers}
+use Rattle.byte_view.specs.Headers.{Section, Headers, front, holds_range, raw_place, file_place, sections_of, cli_header_place, metadata_place, headers}
 use Rattle.byte_view.specs.Streams.{Range, Streams, Stream, root, stream_name, stream_at, first_of, with_stream, streams_after, streams}
 use Rattle.byte_view.specs.Layout.{layout}
 use Rattle.byte_view.specs.Laws.{TablesLieInMetadata}
@@ -81,7 +81,7 @@ with_stream_lies at end s x before here =
     cond_both (bytes_eq x.name (codes "#GUID")) _ _ (AllLieIn at end) (λ _. record { tables = before.tables; strings = before.strings; user_strings = before.user_strings; guids = first_lies at end s.guids x.range before.guids here; blobs = before.blobs }) (λ _.
     cond_both (bytes_eq x.name (codes "#Blob")) _ _ (AllLieIn at end) (λ _. record { tables = before.tables; strings = before.strings; user_strings = before.user_strings; guids = before.guids; blobs = first_lies at end s.blobs x.range before.blobs here }) (λ _. before)))))
 
--- the streams of the first headers lie in the metadata, and the next header behind the first one
+-- the streams of the first headers lie in the metadata, and the next header after the first one
 pub streams_after_lie : (image : List ℕ) (at first n : ℕ) (x : Streams × ℕ) → streams_after image at first n ≡ Ok x → AllLieIn at (length image) x.0 × (first ≤ x.1)
 unfolding streams_after
 streams_after_lie image at first zero x e =

@@ -1,5 +1,5 @@
--- An assembly as heaps and tables, or its first broken part up to its cells: exactly one of the two (ECMA-335 II.22 to
--- II.25).
+-- An assembly as heaps and tables, or its first broken part up to its cells: exactly one of the two
+-- (ECMA-335 II.22 to II.25).
 use Rattle.std.specs.Prelude.{ℕ, ◌+◌, List, take, Result, Ok}
 use Rattle.byte_view.specs.Reading.{Broken, ◌>>=◌}
 use Rattle.byte_view.specs.Headers.{Headers, headers}
@@ -25,7 +25,8 @@ metadata_in image at = do
   _ ← check_cells layout m
   Ok m
 
--- what is asked of metadata before the rows of its tables are counted: its streams, and the header of `#~`
+-- what is asked of metadata before the rows of its tables are counted: its streams, and the header
+-- of `#~`
 abbrev pub header_in : List ℕ → ℕ → Result ℕ Broken
 header_in image at = do
   streams ← streams image at

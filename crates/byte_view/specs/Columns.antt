@@ -21,8 +21,10 @@ has_constant = CodedRow 2 (Some 0x04 ∷ Some 0x08 ∷ Some 0x17 ∷ [])
 
 abbrev pub has_custom_attribute : Column
 has_custom_attribute =
-    CodedRow 5 (Some 0x06 ∷ Some 0x04 ∷ Some 0x01 ∷ Some 0x02 ∷ Some 0x08 ∷ Some 0x09 ∷ Some 0x0A ∷ Some 0x00 ∷ Some 0x0E ∷ Some 0x17 ∷ Some 0x14
-    ∷ Some 0x11 ∷ Some 0x1A ∷ Some 0x1B ∷ Some 0x20 ∷ Some 0x23 ∷ Some 0x26 ∷ Some 0x27 ∷ Some 0x28 ∷ Some 0x2A ∷ Some 0x2C ∷ Some 0x2B ∷ [])
+    CodedRow 5 (Some 0x06 ∷ Some 0x04 ∷ Some 0x01 ∷ Some 0x02 ∷ Some 0x08 ∷ Some 0x09
+    ∷ Some 0x0A ∷ Some 0x00 ∷ Some 0x0E ∷ Some 0x17 ∷ Some 0x14 ∷ Some 0x11 ∷ Some 0x1A
+    ∷ Some 0x1B ∷ Some 0x20 ∷ Some 0x23 ∷ Some 0x26 ∷ Some 0x27 ∷ Some 0x28 ∷ Some 0x2A
+    ∷ Some 0x2C ∷ Some 0x2B ∷ [])
 
 abbrev pub has_field_marshal : Column
 has_field_marshal = CodedRow 1 (Some 0x04 ∷ Some 0x08 ∷ [])
@@ -59,11 +61,13 @@ abbrev pub all_columns : List (List Column)
 all_columns =
     (Number 2 ∷ StringOffset ∷ GuidNumber ∷ GuidNumber ∷ GuidNumber ∷ [])  -- 00 Module
     ∷ (resolution_scope ∷ StringOffset ∷ StringOffset ∷ [])  -- 01 TypeRef
-    ∷ (Number 4 ∷ StringOffset ∷ StringOffset ∷ type_def_or_ref ∷ RunOf 0x04 ∷ RunOf 0x06 ∷ [])  -- 02 TypeDef
+    -- 02 TypeDef
+    ∷ (Number 4 ∷ StringOffset ∷ StringOffset ∷ type_def_or_ref ∷ RunOf 0x04 ∷ RunOf 0x06 ∷ [])
     ∷ []
     ∷ (Number 2 ∷ StringOffset ∷ BlobOffset ∷ [])  -- 04 Field
     ∷ []
-    ∷ (Number 4 ∷ Number 2 ∷ Number 2 ∷ StringOffset ∷ BlobOffset ∷ RunOf 0x08 ∷ [])  -- 06 MethodDef
+    -- 06 MethodDef
+    ∷ (Number 4 ∷ Number 2 ∷ Number 2 ∷ StringOffset ∷ BlobOffset ∷ RunOf 0x08 ∷ [])
     ∷ []
     ∷ (Number 2 ∷ Number 2 ∷ StringOffset ∷ [])  -- 08 Param
     ∷ (RowOf 0x02 ∷ type_def_or_ref ∷ [])  -- 09 InterfaceImpl
@@ -89,10 +93,14 @@ all_columns =
     ∷ (Number 4 ∷ RowOf 0x04 ∷ [])  -- 1D FieldRVA
     ∷ []
     ∷ []
-    ∷ (Number 4 ∷ Number 2 ∷ Number 2 ∷ Number 2 ∷ Number 2 ∷ Number 4 ∷ BlobOffset ∷ StringOffset ∷ StringOffset ∷ [])  -- 20 Assembly
+    -- 20 Assembly
+    ∷ (Number 4 ∷ Number 2 ∷ Number 2 ∷ Number 2 ∷ Number 2 ∷ Number 4
+    ∷ BlobOffset ∷ StringOffset ∷ StringOffset ∷ [])
     ∷ (Number 4 ∷ [])  -- 21 AssemblyProcessor
     ∷ (Number 4 ∷ Number 4 ∷ Number 4 ∷ [])  -- 22 AssemblyOS
-    ∷ (Number 2 ∷ Number 2 ∷ Number 2 ∷ Number 2 ∷ Number 4 ∷ BlobOffset ∷ StringOffset ∷ StringOffset ∷ BlobOffset ∷ [])  -- 23 AssemblyRef
+    -- 23 AssemblyRef
+    ∷ (Number 2 ∷ Number 2 ∷ Number 2 ∷ Number 2 ∷ Number 4
+    ∷ BlobOffset ∷ StringOffset ∷ StringOffset ∷ BlobOffset ∷ [])
     ∷ (Number 4 ∷ RowOf 0x23 ∷ [])  -- 24 AssemblyRefProcessor
     ∷ (Number 4 ∷ Number 4 ∷ Number 4 ∷ RowOf 0x23 ∷ [])  -- 25 AssemblyRefOS
     ∷ (Number 4 ∷ StringOffset ∷ BlobOffset ∷ [])  -- 26 File
@@ -114,7 +122,8 @@ columns table = slice_index_or all_columns table []
 abbrev pub is_table : ℕ → Bool
 is_table table = nat_lt 0 (length (columns table))
 
--- a heap's index has 4 bytes where its bit of HeapSizes is set: 1 for `#Strings`, 2 for `#GUID`, 4 for `#Blob`
+-- a heap's index has 4 bytes where its bit of HeapSizes is set: 1 for `#Strings`, 2 for `#GUID`, 4
+-- for `#Blob`
 abbrev pub heap_width : ℕ → ℕ → ℕ
 heap_width heap_sizes bit = if bit_and heap_sizes bit == 0 then 2 else 4
 
@@ -122,8 +131,8 @@ abbrev pub rows_of_tag : List ℕ → Option ℕ → ℕ
 rows_of_tag rows None = 0
 rows_of_tag rows (Some table) = slice_index rows table
 
--- The width of a column in bytes, by HeapSizes and the row count of each table. An index has 2 bytes where it
--- reaches each row, a coded one each row of each of its tables.
+-- The width of a column in bytes, by HeapSizes and the row count of each table. An index has 2
+-- bytes where it reaches each row, a coded one each row of each of its tables.
 unfoldable pub width : ℕ → List ℕ → Column → ℕ
 width heap_sizes rows (Number n) = n
 width heap_sizes rows StringOffset = heap_width heap_sizes 1

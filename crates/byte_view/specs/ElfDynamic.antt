@@ -10,15 +10,18 @@ use Rattle.byte_view.specs.ElfParts as parts
 -- the header of the dynamic section, that of one more header after some; a second one is wrong
 abbrev pub and_dynamic : List ℕ → Option ℕ → ℕ → Result (Option ℕ) Broken
 and_dynamic bytes None at = if is_of_type pt_dynamic bytes at then Ok (Some at) else Ok None
-and_dynamic bytes (Some before) at = if is_of_type pt_dynamic bytes at then Err (parts.dynamic, at) else Ok (Some before)
+and_dynamic bytes (Some before) at =
+    if is_of_type pt_dynamic bytes at then Err (parts.dynamic, at) else Ok (Some before)
 
 unfoldable pub dynamic_among : List ℕ → ℕ → ℕ → Result (Option ℕ) Broken
 dynamic_among bytes start zero = Ok None
-dynamic_among bytes start (suc n) = dynamic_among bytes start n >>= λ before. and_dynamic bytes before (start + 56 * n)
+dynamic_among bytes start (suc n) =
+    dynamic_among bytes start n >>= λ before. and_dynamic bytes before (start + 56 * n)
 
 -- the one program header of the dynamic section, by its place in the file
 unfoldable pub dynamic_header : List ℕ → ℕ → ℕ → Result ℕ Broken
-dynamic_header bytes start count = dynamic_among bytes start count >>= λ found. ok_or found (parts.dynamic, 32)
+dynamic_header bytes start count =
+    dynamic_among bytes start count >>= λ found. ok_or found (parts.dynamic, 32)
 
 -- an entry: where it stands in the file, its tag, its value
 pub record Entry : Type 0 where
@@ -79,20 +82,25 @@ dt_gnu_hash = 0x6FFFFEF5
 
 -- how many entries of 16 bytes the segment and the file hold whole
 unfoldable pub entry_count : List ℕ → ℕ → ℕ
-entry_count bytes header = min (le bytes (header + 32) 8) (length bytes - le bytes (header + 8) 8) / 16
+entry_count bytes header =
+    min (le bytes (header + 32) 8) (length bytes - le bytes (header + 8) 8) / 16
 
 -- those entries, in order
 unfoldable pub entries : List ℕ → ℕ → List Entry
-entries bytes header = map (λ k. entry_at bytes (le bytes (header + 8) 8 + 16 * k)) (range_with_len 0 (entry_count bytes header))
+entries bytes header =
+    map (λ k. entry_at bytes (le bytes (header + 8) 8 + 16 * k))
+    (range_with_len 0 (entry_count bytes header))
 
 abbrev pub is_end : Entry → Bool
 is_end entry = entry.tag == dt_null
 
--- there are no text relocations and no relocations without addends, and entries of symbols and relocations have 24 bytes
+-- there are no text relocations and no relocations without addends, and entries of symbols and
+-- relocations have 24 bytes
 unfoldable pub check_entry : Entry → Result ℕ Broken
 check_entry entry = do
   _ ← must (not (entry.tag == dt_textrel || entry.tag == dt_rel)) (parts.dynamic, entry.at)
-  must (not (entry.tag == dt_syment || entry.tag == dt_relaent) || entry.value == 24) (parts.dynamic, entry.at + 8)
+  must (not (entry.tag == dt_syment || entry.tag == dt_relaent) || entry.value == 24)
+      (parts.dynamic, entry.at + 8)
 
 -- a test of each entry, in order
 unfoldable pub check_entries : List Entry → Result ℕ Broken

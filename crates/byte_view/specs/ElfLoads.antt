@@ -1,10 +1,12 @@
--- The headers of a library up to its loads (System V gABI, 'ELF Header' and 'Program Header'; RISC-V psABI, 'File Header').
+-- The headers of a library up to its loads (System V gABI, 'ELF Header' and 'Program Header';
+-- RISC-V psABI, 'File Header').
 use Rattle.std.specs.Prelude.{ℕ, zero, suc, ◌+◌, ◌-◌, ◌*◌, ◌^◌, Bool, not, ◌||◌, ◌&&◌, ◌==◌, nat_lt, nat_le, List, [], ◌∷◌, ◌++◌, length, find, slice_range, Option, option_map, Result, Ok, bit_and, if◌then◌else◌}
 use Rattle.byte_view.specs.Numbers.{le}
 use Rattle.byte_view.specs.Reading.{Broken, ◌>>=◌, must, field, field_where, each}
 use Rattle.byte_view.specs.ElfParts as parts
 
--- a load: where its header, and its bytes, stand in the file; where it stands in memory, from the library's base; its size there
+-- a load: where its header, and its bytes, stand in the file; where it stands in memory, from the
+-- library's base; its size there
 pub record Load : Type 0 where
   pub at : ℕ
   pub file_at : ℕ
@@ -15,7 +17,8 @@ pub record Load : Type 0 where
   pub writable : Bool
   pub executable : Bool
 
--- a shared library of 64 bits for RISC-V, lowest byte first, without compressed instructions (1) and not RV32E or RV64E (8)
+-- a shared library of 64 bits for RISC-V, lowest byte first, without compressed instructions (1)
+-- and not RV32E or RV64E (8)
 unfoldable pub identified : List ℕ → Result ℕ Broken
 identified bytes = do
   _ ← field_where (λ magic. magic == 0x464C457F) parts.ident bytes 0 4
@@ -52,8 +55,8 @@ pt_tls = 7
 abbrev pub has_flag : ℕ → List ℕ → ℕ → Bool
 has_flag flag bytes at = not (bit_and (le bytes (at + 4) 4) flag == 0)
 
--- The load of a header: its bytes are in the file, it is not smaller in memory, and it lies there behind the end of the load
--- before and below 2^32.
+-- The load of a header: its bytes are in the file, it is not smaller in memory, and it lies there
+-- after the end of the load before and below 2^32.
 unfoldable pub load_at : List ℕ → ℕ → ℕ → Result Load Broken
 load_at bytes end at = do
   let file_at : ℕ = le bytes (at + 8) 8
@@ -98,11 +101,15 @@ loads bytes start (suc n) = loads bytes start n >>= λ before. and_load bytes be
 
 -- no header is of thread-local storage
 abbrev pub without_tls : List ℕ → ℕ → ℕ → Result ℕ Broken
-without_tls bytes start count = each (λ n. must (not (is_of_type pt_tls bytes (start + 56 * n))) (parts.tls, start + 56 * n)) count
+without_tls bytes start count =
+    each
+    (λ n. must (not (is_of_type pt_tls bytes (start + 56 * n))) (parts.tls, start + 56 * n))
+    count
 
 -- the file has the bytes of a range of addresses, in this load
 unfoldable pub holds_range : ℕ → ℕ → Load → Bool
-holds_range addr len load = nat_le load.vaddr addr && nat_le (addr + len) (load.vaddr + load.file_size)
+holds_range addr len load =
+    nat_le load.vaddr addr && nat_le (addr + len) (load.vaddr + load.file_size)
 
 -- where a load has the byte of an address in the file
 abbrev pub file_place_in : ℕ → Load → ℕ
@@ -115,4 +122,5 @@ file_place loads addr len = option_map (file_place_in addr) (find (holds_range a
 -- the bytes that the file has from an address to the end of its load
 unfoldable pub bytes_from : List ℕ → List Load → ℕ → Option (List ℕ)
 bytes_from bytes loads addr =
-    option_map (λ load. slice_range bytes (file_place_in addr load) (load.file_at + load.file_size)) (find (holds_range addr 1) loads)
+    option_map (λ load. slice_range bytes (file_place_in addr load) (load.file_at + load.file_size))
+    (find (holds_range addr 1) loads)

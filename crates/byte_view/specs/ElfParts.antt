@@ -1,5 +1,5 @@
--- The parts of a library file, each by its place in the reading order, from 0; the last four are found where libraries are
--- bound.
+-- The parts of a library file, each by its place in the reading order, from 0; the last four are
+-- found where libraries are bound.
 use Rattle.std.specs.Prelude.{ℕ}
 
 abbrev pub ident : ℕ

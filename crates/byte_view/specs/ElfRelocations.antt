@@ -17,7 +17,8 @@ pub record Relocation : Type 0 where
   pub kind : ℕ
   pub addend : ℤ
 
--- an entry of 24 bytes; of its second doubleword the low half is the type, the high half a symbol's number
+-- an entry of 24 bytes; of its second doubleword the low half is the type, the high half a symbol's
+-- number
 abbrev pub relocation_at : List ℕ → ℕ → Relocation
 relocation_at bytes at = record {
   at = at;
@@ -28,7 +29,8 @@ relocation_at bytes at = record {
 }
 
 -- the relocations of a table of a size; one that isn't there has none
-unfoldable pub relocation_table : List ℕ → List Load → Option Entry → ℕ → Result (List Relocation) Broken
+unfoldable pub relocation_table :
+    List ℕ → List Load → Option Entry → ℕ → Result (List Relocation) Broken
 relocation_table bytes loads None size = Ok []
 relocation_table bytes loads (Some entry) size = do
   at ← table_place parts.relocs loads entry entry.value size

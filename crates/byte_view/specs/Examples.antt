@@ -9,9 +9,11 @@ use Rattle.byte_view.specs.Assembly.{assembly}
 
 -- of a file of 62 bytes that begins with `MZ`, the number at 60 is cut
 abbrev pub CutFile : Type 0
-CutFile = (rest : List ℕ) → length rest ≡ 60 → assembly (0x4D ∷ 0x5A ∷ rest) ≡ Err (parts.pe_offset, 60)
+CutFile =
+    (rest : List ℕ) → length rest ≡ 60 → assembly (0x4D ∷ 0x5A ∷ rest) ≡ Err (parts.pe_offset, 60)
 
--- compressed numbers of one, two and four bytes, a longer spelling than needed, and a first byte that begins none
+-- compressed numbers of one, two and four bytes, a longer spelling than needed, and a first byte
+-- that begins none
 abbrev pub CompressedNumbers : Type 0
 CompressedNumbers =
     (compressed_at (0x03 ∷ []) 0 ≡ Some (3, 1))
@@ -49,8 +51,8 @@ u32 n = little_bytes 4 n
 abbrev pub zeros : ℕ → List ℕ
 zeros n = replicate n 0
 
--- the headers of a PE32 file of one section, which is loaded at 0x2000, begins at 344 with the CLI header, and has the
--- metadata at 416
+-- the headers of a PE32 file of one section, which is loaded at 0x2000, begins at 344 with the CLI
+-- header, and has the metadata at 416
 abbrev pub headers_before : ℕ → List ℕ
 headers_before meta_size =
     codes "MZ" ++ zeros 58 ++ u32 64
@@ -58,16 +60,22 @@ headers_before meta_size =
     ++ u16 0x14C ++ u16 1 ++ zeros 12 ++ u16 216 ++ u16 0
     ++ u16 0x10B ++ zeros 90 ++ u32 16
     ++ zeros 112 ++ u32 0x2000 ++ u32 72
-    ++ codes ".text" ++ zeros 3 ++ u32 (72 + meta_size) ++ u32 0x2000 ++ u32 (72 + meta_size) ++ u32 344 ++ zeros 16
+    ++ codes ".text" ++ zeros 3
+    ++ u32 (72 + meta_size) ++ u32 0x2000 ++ u32 (72 + meta_size) ++ u32 344 ++ zeros 16
     ++ u32 72 ++ u16 2 ++ u16 5 ++ u32 0x2048 ++ u32 meta_size ++ u32 1 ++ zeros 52
 
 -- a metadata root with a version of four bytes, up to the number of streams
 abbrev pub root_before : ℕ → List ℕ
-root_before streams = codes "BSJB" ++ u16 1 ++ u16 1 ++ zeros 4 ++ u32 4 ++ codes "v4" ++ zeros 2 ++ u16 0 ++ u16 streams
+root_before streams =
+    codes "BSJB" ++ u16 1 ++ u16 1 ++ zeros 4 ++ u32 4 ++ codes "v4" ++ zeros 2
+    ++ u16 0 ++ u16 streams
 
 -- a file without tables
 abbrev pub empty_file : List ℕ
-empty_file = headers_before 60 ++ root_before 1 ++ u32 36 ++ u32 24 ++ codes "#~" ++ zeros 2 ++ zeros 6 ++ 0 ∷ 1 ∷ [] ++ zeros 16
+empty_file =
+    headers_before 60 ++ root_before 1
+    ++ u32 36 ++ u32 24 ++ codes "#~" ++ zeros 2
+    ++ zeros 6 ++ 0 ∷ 1 ∷ [] ++ zeros 16
 
 abbrev pub EmptyFile : Type 0
 EmptyFile =
@@ -99,7 +107,11 @@ ModuleFile =
       user_strings = [];
       guids = [];
       blobs = [];
-      layout = record { heap_sizes = 0; rows = 1 ∷ replicate 44 0; starts = 500 ∷ replicate 44 510 };
+      layout = record {
+        heap_sizes = 0;
+        rows = 1 ∷ replicate 44 0;
+        starts = 500 ∷ replicate 44 510;
+      };
       tables = ((0 ∷ 1 ∷ 0 ∷ 0 ∷ 0 ∷ 0 ∷ 0 ∷ 0 ∷ 0 ∷ []) ∷ []) ∷ replicate 44 [];
     })
 

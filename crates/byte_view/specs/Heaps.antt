@@ -5,12 +5,17 @@ use Rattle.byte_view.specs.Numbers.{le, compressed_at}
 
 -- the bytes at a place up to a zero, where there is one
 unfoldable pub text_at : List ℕ → ℕ → Option (List ℕ)
-text_at bytes at = option_map (λ n. take n (drop at bytes)) (position (λ byte. byte == 0) (drop at bytes))
+text_at bytes at =
+    option_map (λ n. take n (drop at bytes)) (position (λ byte. byte == 0) (drop at bytes))
 
 -- the bytes of the entry at a place of `#Blob` or `#US`: a compressed length, and so many bytes
 unfoldable pub blob_at : List ℕ → ℕ → Option (List ℕ)
 blob_at heap at =
-    option_and_then (λ size. if nat_le (at + size.1 + size.0) (length heap) then Some (take size.0 (drop (at + size.1) heap)) else None) (compressed_at heap at)
+    option_and_then (λ size.
+    if nat_le (at + size.1 + size.0) (length heap)
+    then Some (take size.0 (drop (at + size.1) heap))
+    else None)
+    (compressed_at heap at)
 
 -- bytes as UTF-16 units, lowest byte first; an odd last byte belongs to none
 abbrev pub units_of : List ℕ → List ℕ

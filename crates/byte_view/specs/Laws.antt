@@ -9,24 +9,29 @@ use Rattle.byte_view.specs.Metadata.{Metadata, tables_in}
 use Rattle.byte_view.specs.Cells.{checked_tables, rows_in, value_in, value_before, is_sound_in}
 use Rattle.byte_view.specs.Assembly.{assembly}
 
--- the place behind the last row of a table
+-- the place after the last row of a table
 abbrev pub table_end : Layout → ℕ → ℕ
-table_end l table = slice_index l.starts table + slice_index l.rows table * row_width l.heap_sizes l.rows table
+table_end l table =
+    slice_index l.starts table + slice_index l.rows table * row_width l.heap_sizes l.rows table
 
--- The tables lie behind the stream's header and before its end, one after another: each begins where the one before
--- ends, so that no two share a byte.
+-- The tables lie after the stream's header and before its end, one after another: each begins
+-- where the one before ends, so that no two share a byte.
 pub record LieApart (image : List ℕ) (start : ℕ) (l : Layout) : Type 0 where
-  pub behind_header : start + 24 ≤ slice_index l.starts 0
-  pub follow : (table : ℕ) → table + 1 < table_numbers → slice_index l.starts (table + 1) ≡ table_end l table
-  pub apart : (table later : ℕ) → table < later → later < table_numbers → table_end l table ≤ slice_index l.starts later
+  pub after_header : start + 24 ≤ slice_index l.starts 0
+  pub follow : (table : ℕ) → table + 1 < table_numbers
+      → slice_index l.starts (table + 1) ≡ table_end l table
+  pub apart : (table later : ℕ) → table < later → later < table_numbers
+      → table_end l table ≤ slice_index l.starts later
   pub within : (table : ℕ) → table < table_numbers → table_end l table ≤ length image
 
 -- the tables of a stream that is laid out lie apart
 abbrev pub TablesOfStreamLieApart : Type 0
-TablesOfStreamLieApart = (image : List ℕ) (start : ℕ) (l : Layout) → layout image start ≡ Ok l → LieApart image start l
+TablesOfStreamLieApart =
+    (image : List ℕ) (start : ℕ) (l : Layout)
+    → layout image start ≡ Ok l → LieApart image start l
 
--- The tables of an accepted file: where the stream lies, inside the metadata and inside the file, where the tables lie in
--- the stream, and that the rows are what stands there.
+-- The tables of an accepted file: where the stream lies, inside the metadata and inside the file,
+-- where the tables lie in the stream, and that the rows are what stands there.
 pub record TablesOf (bytes : List ℕ) (m : Metadata) : Type 0 where
   pub headers_of : Headers
   pub read : headers bytes ≡ Ok headers_of
@@ -51,7 +56,8 @@ CheckedCellsAreSound =
     → Contains checked_tables table
     → row < rows_in m table
     → column < length (columns table)
-    → is_sound_in m (slice_get (columns table) column) (value_before m table row column) (value_in m table row column) ≡ true
+    → is_sound_in m (slice_get (columns table) column)
+    (value_before m table row column) (value_in m table row column) ≡ true
 
 -- a row of the table that a tag stands for
 abbrev pub NamesRow : Metadata → Option (Option ℕ) → ℕ → Type 0
@@ -59,15 +65,17 @@ NamesRow m None row = ⊥
 NamesRow m (Some None) row = ⊥
 NamesRow m (Some (Some table)) row = (1 ≤ row) × (row ≤ rows_in m table)
 
--- What a cell of a column may hold, `before` being the same cell of the row before: an offset in its heap or 0, the
--- number of a whole GUID or 0, a row or 0, a run's first row, or a row of one of the tables that the column allows or 0.
+-- What a cell of a column may hold, `before` being the same cell of the row before: an offset in
+-- its heap or 0, the number of a whole GUID or 0, a row or 0, a run's first row, or a row of one of
+-- the tables that the column allows or 0.
 abbrev pub MayHold : Metadata → Column → ℕ → ℕ → Type 0
 MayHold m (Number n) before value = Unit {0}
 MayHold m StringOffset before value = (value ≡ 0) ⊎ (value < length m.strings)
 MayHold m GuidNumber before value = 16 * value ≤ length m.guids
 MayHold m BlobOffset before value = (value ≡ 0) ⊎ (value < length m.blobs)
 MayHold m (RowOf table) before value = value ≤ rows_in m table
-MayHold m (RunOf table) before value = (1 ≤ value) × (value ≤ rows_in m table + 1) × (before ≤ value)
+MayHold m (RunOf table) before value =
+    (1 ≤ value) × (value ≤ rows_in m table + 1) × (before ≤ value)
 MayHold m (CodedRow tag_bits tables) before value =
     (value ≡ 0) ⊎ NamesRow m (slice_get tables (value % 2 ^ tag_bits)) (value / 2 ^ tag_bits)
 
@@ -82,8 +90,9 @@ CheckedCellsNameWhatIsThere =
     → slice_get (columns table) column ≡ Some kind
     → MayHold m kind (value_before m table row column) (value_in m table row column)
 
--- An import, by its row of ImplMap: its scope is a row of ModuleRef or 0, its name an offset in `#Strings` or 0, and the
--- member that it stands for 0, a row of Field (tag 0) or a row of MethodDef (tag 1).
+-- An import, by its row of ImplMap: its scope is a row of ModuleRef or 0, its name an offset in
+-- `#Strings` or 0, and the member that it stands for 0, a row of Field (tag 0) or a row of
+-- MethodDef (tag 1).
 pub record IsSoundImport (m : Metadata) (row : ℕ) : Type 0 where
   pub scope : value_in m impl_map row impl_map_import_scope ≤ rows_in m module_ref
   pub name : (value_in m impl_map row impl_map_import_name ≡ 0)
@@ -102,8 +111,8 @@ ImportsAreSound =
     → row < rows_in m impl_map
     → IsSoundImport m row
 
--- The fields and methods of a type, by its row of TypeDef: each run begins at a row or behind the last, and not before
--- that of the type before.
+-- The fields and methods of a type, by its row of TypeDef: each run begins at a row or after the
+-- last, and not before that of the type before.
 pub record HasRuns (m : Metadata) (row : ℕ) : Type 0 where
   pub fields : (1 ≤ value_in m type_def row type_def_field_list)
       × (value_in m type_def row type_def_field_list ≤ rows_in m field + 1)
@@ -122,13 +131,14 @@ TypesHaveRuns =
     → row < rows_in m type_def
     → HasRuns m row
 
--- What the headers tell of a file and the bytes of its metadata decide the answer: two files that agree in both are read
--- as the same assembly, or refused at the same place.
+-- What the headers tell of a file and the bytes of its metadata decide the answer: two files that
+-- agree in both are read as the same assembly, or refused at the same place.
 abbrev pub HeadersAndMetadataDecide : Type 0
 HeadersAndMetadataDecide =
     (a b : List ℕ)
     → headers a ≡ headers b
-    → ((h : Headers) → headers a ≡ Ok h → take h.meta_size (drop h.meta_at a) ≡ take h.meta_size (drop h.meta_at b))
+    → ((h : Headers) → headers a ≡ Ok h
+    → take h.meta_size (drop h.meta_at a) ≡ take h.meta_size (drop h.meta_at b))
     → assembly a ≡ assembly b
 
 -- where the section headers end
@@ -139,12 +149,13 @@ sections_end bytes p = p + 24 + le bytes (p + 20) 2 + 40 * le bytes (p + 6) 2
 abbrev pub directory_end : List ℕ → ℕ → ℕ
 directory_end bytes p = p + 24 + (if le bytes (p + 24) 2 == 0x10B then 92 else 108) + 124
 
--- the bytes of a file from its start up to the end of its PE headers; the signature stands at the number at 60
+-- the bytes of a file from its start up to the end of its PE headers; the signature stands at the
+-- number at 60
 abbrev pub head_of : List ℕ → ℕ
 head_of bytes = max (sections_end bytes (le bytes 60 4)) (directory_end bytes (le bytes 60 4))
 
--- Files of one length with the same bytes in the PE headers up to the last section header, in the CLI header and in the
--- metadata. Where these lie is told by the headers of the first.
+-- Files of one length with the same bytes in the PE headers up to the last section header, in the
+-- CLI header and in the metadata. Where these lie is told by the headers of the first.
 pub record DifferElsewhere (a b : List ℕ) (h : Headers) : Type 0 where
   pub read : headers a ≡ Ok h
   pub size : length a ≡ length b

@@ -19,7 +19,8 @@ is_present valid table = not (bit_and valid (2 ^ table) == 0)
 -- how many of the tables below one are there
 unfoldable pub present_below : ℕ → ℕ → ℕ
 present_below valid zero = 0
-present_below valid (suc table) = present_below valid table + (if is_present valid table then 1 else 0)
+present_below valid (suc table) =
+    present_below valid table + (if is_present valid table then 1 else 0)
 
 -- where a table's row count stands: the counts of the tables that are there, one after another
 abbrev pub count_place : ℕ → ℕ → ℕ → ℕ
@@ -28,13 +29,16 @@ count_place start valid table = start + 24 + 4 * present_below valid table
 -- the row count of a table, 0 where it isn't there
 abbrev pub row_count : List ℕ → ℕ → ℕ → ℕ → Result ℕ Broken
 row_count image start valid table =
-    if is_present valid table then field parts.tables image (count_place start valid table) 4 else Ok 0
+    if is_present valid table
+    then field parts.tables image (count_place start valid table) 4
+    else Ok 0
 
--- where a table's rows begin: behind the row counts and the tables before
+-- where a table's rows begin: after the row counts and the tables before
 unfoldable pub table_start : ℕ → ℕ → ℕ → List ℕ → ℕ → ℕ
 table_start start valid heap_sizes rows zero = count_place start valid table_numbers
 table_start start valid heap_sizes rows (suc table) =
-    table_start start valid heap_sizes rows table + slice_index rows table * row_width heap_sizes rows table
+    table_start start valid heap_sizes rows table
+    + slice_index rows table * row_width heap_sizes rows table
 
 -- where a table's rows begin, if they end in the stream; else its row count is wrong
 abbrev pub start_of : List ℕ → ℕ → ℕ → ℕ → List ℕ → ℕ → Result ℕ Broken

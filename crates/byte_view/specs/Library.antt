@@ -1,5 +1,6 @@
--- A library as loads, symbols, relocations and initializers, or its first broken part up to its relocations: exactly one of
--- the two (System V gABI, 'Object Files' and 'Program Loading and Dynamic Linking').
+-- A library as loads, symbols, relocations and initializers, or its first broken part up to its
+-- relocations: exactly one of the two (System V gABI, 'Object Files' and 'Program Loading and
+-- Dynamic Linking').
 use Rattle.std.specs.Prelude.{ℕ, List, Option, Some, None, Result, Ok}
 use Rattle.byte_view.specs.Reading.{Broken, ◌>>=◌}
 use Rattle.byte_view.specs.ElfLoads.{Load, identified, program_headers, loads, without_tls}
@@ -7,7 +8,8 @@ use Rattle.byte_view.specs.ElfDynamic.{Entry, dynamic_header, dynamic_table, ent
 use Rattle.byte_view.specs.ElfSymbols.{Symbol, symbols}
 use Rattle.byte_view.specs.ElfRelocations.{Relocation, relocations}
 
--- the array of initializers: where DT_INIT_ARRAY's entry stands in the file, the array's address, and its size in bytes
+-- the array of initializers: where DT_INIT_ARRAY's entry stands in the file, the array's address,
+-- and its size in bytes
 pub record InitArray : Type 0 where
   pub at : ℕ
   pub addr : ℕ

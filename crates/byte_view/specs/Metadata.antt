@@ -5,8 +5,8 @@ use Rattle.byte_view.specs.Numbers.{le}
 use Rattle.byte_view.specs.Columns.{Column, columns, width, column_offset, row_width, table_numbers}
 use Rattle.byte_view.specs.Layout.{Layout}
 
--- the heaps `#Strings`, `#US`, `#GUID` and `#Blob`, where the tables lie in the file, and the rows of each table by its
--- number
+-- the heaps `#Strings`, `#US`, `#GUID` and `#Blob`, where the tables lie in the file, and the rows
+-- of each table by its number
 pub record Metadata : Type 0 where
   pub strings : List ℕ
   pub user_strings : List ℕ
@@ -42,7 +42,8 @@ cell_place l table row column =
 -- the number in a cell, 0 past the last column
 abbrev pub cell_value : List ℕ → Layout → ℕ → ℕ → ℕ → Option Column → ℕ
 cell_value image l table row column None = 0
-cell_value image l table row column (Some kind) = le image (cell_place l table row column) (width l.heap_sizes l.rows kind)
+cell_value image l table row column (Some kind) =
+    le image (cell_place l table row column) (width l.heap_sizes l.rows kind)
 
 -- how many numbers a row is given with: the most columns that a table has
 abbrev pub row_numbers : ℕ
@@ -51,8 +52,11 @@ row_numbers = 9
 -- a row's numbers, column after column, and 0 for those that its table doesn't have
 unfoldable pub row_at : List ℕ → Layout → ℕ → ℕ → List ℕ
 row_at image l table row =
-    map (λ column. cell_value image l table row column (slice_get (columns table) column)) (range_with_len 0 row_numbers)
+    map (λ column. cell_value image l table row column (slice_get (columns table) column))
+    (range_with_len 0 row_numbers)
 
 -- all rows of all tables
 unfoldable pub tables_in : List ℕ → Layout → List (List (List ℕ))
-tables_in image l = map (λ table. map (row_at image l table) (range_with_len 0 (slice_index l.rows table))) (range_with_len 0 table_numbers)
+tables_in image l =
+    map (λ table. map (row_at image l table) (range_with_len 0 (slice_index l.rows table)))
+    (range_with_len 0 table_numbers)

@@ -1,6 +1,7 @@
--- Reading, or binding, step after step: a value, or what was refused first. Whoever reads says what a refusal is; for
--- a file of many fields it is `Broken`, the first part that is broken and the offset of its first field that is
--- missing or wrong. A reader of the code answers by an error of its own, which says such a refusal or want of memory.
+-- Reading, or binding, step after step: a value, or what was refused first. Whoever reads says what
+-- a refusal is; for a file of many fields it is `Broken`, the first part that is broken and the
+-- offset of its first field that is missing or wrong. A reader of the code answers by an error of
+-- its own, which says such a refusal or want of memory.
 use Rattle.std.specs.Prelude.{◌≡◌, ℕ, zero, suc, ◌+◌, Bool, nat_le, List, [], ◌∷◌, ◌++◌, length, Option, Some, None, Result, Ok, Err, ⊤, if◌then◌else◌}
 use Rattle.byte_view.specs.Numbers.{le}
 
@@ -33,8 +34,8 @@ abbrev pub RefusedBy : {R Y : Type 0} → Option R → Result Y R → Type 0
 RefusedBy (Some refusal) read = read ≡ Err refusal
 RefusedBy None read = ⊤
 
--- A reader's error is the definition's refusal. `says` tells what an error says; want of memory says nothing, and is
--- free.
+-- A reader's error is the definition's refusal. `says` tells what an error says; want of memory
+-- says nothing, and is free.
 abbrev pub Refuses : {E R Y : Type 0} → (E → Option R) → E → Result Y R → Type 0
 Refuses says e read = RefusedBy (says e) read
 
@@ -54,7 +55,8 @@ Broken = ℕ × ℕ
 
 -- the number of n bytes at a place, which is missing where the file ends before it does
 abbrev pub field : ℕ → List ℕ → ℕ → ℕ → Result ℕ Broken
-field part bytes at n = if nat_le (at + n) (length bytes) then Ok (le bytes at n) else Err (part, at)
+field part bytes at n =
+    if nat_le (at + n) (length bytes) then Ok (le bytes at n) else Err (part, at)
 
 -- the same number, which is wrong unless it passes a test
 abbrev pub field_where : (ℕ → Bool) → ℕ → List ℕ → ℕ → ℕ → Result ℕ Broken

@@ -1,5 +1,5 @@
--- The metadata root and its streams (ECMA-335 II.24.2.1 and II.24.2.2). `image` is the file up to the end of its
--- metadata, which begins at `at`. All places are file offsets.
+-- The metadata root and its streams (ECMA-335 II.24.2.1 and II.24.2.2). `image` is the file up to
+-- the end of its metadata, which begins at `at`. All places are file offsets.
 use Rattle.std.specs.Prelude.{ℕ, zero, suc, ◌+◌, ◌*◌, ◌/◌, ◌&&◌, not, ◌==◌, nat_le, List, [], length, codes, slice_range, Option, Some, None, Result, Ok, if◌then◌else◌}
 use Rattle.std.specs.Option.{ok_or}
 use Rattle.std.specs.Str.{bytes_eq}
@@ -21,13 +21,20 @@ pub record Streams : Type 0 where
   pub blobs : Option Range
 
 abbrev pub no_streams : Streams
-no_streams = record { tables = None; strings = None; user_strings = None; guids = None; blobs = None }
+no_streams = record {
+  tables = None;
+  strings = None;
+  user_strings = None;
+  guids = None;
+  blobs = None;
+}
 
--- the number of streams, and where their headers begin: behind the version text and the flags
+-- the number of streams, and where their headers begin: after the version text and the flags
 unfoldable pub root : List ℕ → ℕ → Result (ℕ × ℕ) Broken
 root image at = do
   _ ← field_where (λ signature. signature == 0x424A5342) parts.metadata_root image at 4
-  len ← field_where (λ len. nat_le (at + 16 + len) (length image)) parts.metadata_root image (at + 12) 4
+  len ←
+      field_where (λ len. nat_le (at + 16 + len) (length image)) parts.metadata_root image (at + 12) 4
   count ← field parts.metadata_root image (at + 16 + len + 2) 2
   Ok (count, at + 16 + len + 4)
 
@@ -45,16 +52,24 @@ name_end place name = place + (length name / 4 + 1) * 4
 unfoldable pub stream_name : List ℕ → ℕ → Result (List ℕ) Broken
 stream_name image place = do
   name ← ok_or (text_at image place) (parts.streams, place)
-  _ ← must (nat_le (name_end place name) (length image) && not (bytes_eq name (codes "#-"))) (parts.streams, place)
+  _ ←
+      must (nat_le (name_end place name) (length image) && not (bytes_eq name (codes "#-")))
+      (parts.streams, place)
   Ok name
 
 -- one stream header: the stream's offset in the metadata, its size, its name
 unfoldable pub stream_at : List ℕ → ℕ → ℕ → Result Stream Broken
 stream_at image at place = do
   offset ← field_where (λ offset. nat_le (at + offset) (length image)) parts.streams image place 4
-  size ← field_where (λ size. nat_le (at + offset + size) (length image)) parts.streams image (place + 4) 4
+  size ←
+      field_where (λ size. nat_le (at + offset + size) (length image))
+      parts.streams image (place + 4) 4
   name ← stream_name image (place + 8)
-  Ok (record { name = name; range = record { start = at + offset; end = at + offset + size }; next = name_end (place + 8) name })
+  Ok (record {
+    name = name;
+    range = record { start = at + offset; end = at + offset + size };
+    next = name_end (place + 8) name;
+  })
 
 -- the first stream of a name counts
 abbrev pub first_of : Option Range → Range → Option Range
@@ -65,8 +80,10 @@ first_of (Some first) range = Some first
 unfoldable pub with_stream : Streams → Stream → Streams
 with_stream s x =
     if bytes_eq x.name (codes "#~") then record s { tables = first_of s.tables x.range }
-    else if bytes_eq x.name (codes "#Strings") then record s { strings = first_of s.strings x.range }
-    else if bytes_eq x.name (codes "#US") then record s { user_strings = first_of s.user_strings x.range }
+    else if bytes_eq x.name (codes "#Strings")
+    then record s { strings = first_of s.strings x.range }
+    else if bytes_eq x.name (codes "#US")
+    then record s { user_strings = first_of s.user_strings x.range }
     else if bytes_eq x.name (codes "#GUID") then record s { guids = first_of s.guids x.range }
     else if bytes_eq x.name (codes "#Blob") then record s { blobs = first_of s.blobs x.range }
     else s

@@ -1,5 +1,5 @@
--- Tables by their numbers, and columns of their rows by their places from 0, under the names of ECMA-335 II.22: those that
--- are spoken of one by one.
+-- Tables by their numbers, and columns of their rows by their places from 0, under the names of
+-- ECMA-335 II.22: those that are spoken of one by one.
 use Rattle.std.specs.Prelude.{ℕ}
 
 -- TypeDef (II.22.37), and its runs of fields and of methods
@@ -27,7 +27,8 @@ module_ref = 0x1A
 abbrev pub module_ref_name : ℕ
 module_ref_name = 0
 
--- ImplMap (II.22.22): the member that stands for an import, the import's name, and its library's row of ModuleRef
+-- ImplMap (II.22.22): the member that stands for an import, the import's name, and its library's
+-- row of ModuleRef
 abbrev pub impl_map : ℕ
 impl_map = 0x1C
 

@@ -1,5 +1,5 @@
-//! A library that was worked out by hand, and what reading gives for it: a proof that the definitions say so, in a function
-//! that does nothing.
+//! A library that was worked out by hand, and what reading gives for it: a proof that the
+//! definitions say so, in a function that does nothing.
 
 ghost use Rattle.byte_view.specs.ElfExamples.{AddLibrary, OtherMachine, CompressedCode};
 

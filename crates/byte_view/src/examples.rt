@@ -1,5 +1,5 @@
-//! Files and cells that were worked out by hand, each with what reading gives for it: a proof that the definitions
-//! say so, in a function that does nothing.
+//! Files and cells that were worked out by hand, each with what reading gives for it: a proof that
+//! the definitions say so, in a function that does nothing.
 
 ghost use Rattle.byte_view.specs.Examples.{
   CutFile,
@@ -18,7 +18,8 @@ pub fn cut_file_is_refused()
     ensures { CutFile }
 {}
 
-/// `03` is 3, `80 05` is 5, `DF FF FF FF` is 536,870,911; `E0` begins no number, and `80` alone is cut.
+/// `03` is 3, `80 05` is 5, `DF FF FF FF` is 536,870,911; `E0` begins no number, and `80` alone is
+/// cut.
 #[tactic(auto, using(crate::proofs::Worked::compressed_numbers))]
 pub fn compressed_numbers_are_read()
     ensures { CompressedNumbers }
@@ -54,7 +55,7 @@ pub fn module_file_is_read()
     ensures { ModuleFile }
 {}
 
-/// The same file, whose Module has a name behind the end of `#Strings`: that cell is refused.
+/// The same file, whose Module has a name after the end of `#Strings`: that cell is refused.
 #[tactic(auto, using(crate::proofs::Worked::wrong_name_file_is_refused))]
 pub fn wrong_name_is_refused()
     ensures { WrongNameFile }

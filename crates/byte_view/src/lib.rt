@@ -7,9 +7,7 @@ pub mod examples;
 pub mod laws;
 mod numbers;
 
-pub use numbers::{
-    compressed, le8, le16, le32, le64, number8, number16, number32, number64,
-};
+pub use numbers::{compressed, le8, le16, le32, le64, number8, number16, number32, number64};
 
 #[cfg(test)]
 mod tests;

@@ -79,8 +79,9 @@ pub fn number64(b: &[u8], at: usize) -> u64
     le64(b, at).unwrap()
 }
 
-/// The compressed number at `at`, and how many bytes it takes (ECMA-335 II.23.2). Longer spellings than needed are
-/// read too. None where too few bytes remain, or where the first byte is 0xE0 or more.
+/// The compressed number at `at`, and how many bytes it takes (ECMA-335 II.23.2). Longer spellings
+/// than needed are read too. None where too few bytes remain, or where the first byte is 0xE0 or
+/// more.
 pub fn compressed(b: &[u8], at: usize) -> Option<(u32, usize)>
     ensures { result ≡ compressed_at b.now at }
 {

@@ -4,8 +4,8 @@ use crate::hexadecimal::print_bytes;
 use pe_reader::{Section, at_rva, read_pe, rest_at};
 use std::io;
 
-/// Prints a line for the range of the metadata, the entry point's token and the place of the CLI header, and one for each
-/// section; or the refusal.
+/// Prints a line for the range of the metadata, the entry point's token and the place of the CLI
+/// header, and one for each section; or the refusal.
 pub fn print_headers(rt: &(impl Print + AllocGlobal), file: &[u8]) -> io::Result<()> {
     match read_pe(rt.alloc(), file) {
         Ok(pe) => {

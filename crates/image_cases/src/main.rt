@@ -1,5 +1,6 @@
-//! Reads cases, one a line of stdin, and prints what `pe_reader` and `meta_tables` answer. A line is a verb and its words;
-//! bytes and tables are in hexadecimal, other numbers in decimal. A line that has none of the verbs is printed as it is.
+//! Reads cases, one a line of stdin, and prints what `pe_reader` and `meta_tables` answer. A line
+//! is a verb and its words; bytes and tables are in hexadecimal, other numbers in decimal. A line
+//! that has none of the verbs is printed as it is.
 #![tactic(auto)]
 
 mod headers;

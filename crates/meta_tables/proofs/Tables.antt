@@ -13,7 +13,7 @@ use Rattle.meta_tables.specs.declared.columns.Width.{Width}
 use Rattle.meta_tables.specs.View.{bytes_of}
 use Rattle.meta_tables.specs.Shapes.{width_at, cell_widths}
 
--- a number behind the last table has no columns
+-- a number after the last table has no columns
 pub no_columns : (table : ℕ) → 45 ≤ table → columns table ≡ []
 unfolding columns
 no_columns table h = get_or_past all_columns table [] (omega arith)

@@ -7,7 +7,7 @@ use Rattle.std.proofs.lemmas.Option.{slice_get-get_or, slice_get_past}
 use Rattle.bound_base.specs.declared.image.BadImage.{BadImage}
 use Rattle.bound_base.specs.Image.{refusal}
 use Rattle.byte_view.specs.Numbers.{le}
-use Rattle.byte_view.specs.Reading.{Broken, ◌>>=◌, must, each, listed, Refuses}
+use Rattle.byte_view.specs.Reading.{Broken, ◌>>=◌, listed, Refuses}
 use Rattle.byte_view.specs.Columns.{row_width}
 use Rattle.byte_view.specs.Layout.{Layout, header, table_start, count_place, row_count, start_of, layout}
 use Rattle.byte_view.specs.Streams.{Range, Streams, streams}
@@ -17,7 +17,7 @@ use Rattle.byte_view.specs.Assembly.{metadata_in}
 use Rattle.byte_view.proofs.Reading.{bind_ok, listed_length, listed_at}
 use Rattle.meta_tables.specs.declared.heaps.Heaps.{Heaps}
 use Rattle.meta_tables.specs.declared.layout.Layout.{Layout as CodeLayout}
-use Rattle.meta_tables.specs.Shapes.{view_layout, tests_valid, HasShapes, IsLaidOut}
+use Rattle.meta_tables.specs.Shapes.{view_layout, HasShapes, IsLaidOut}
 use Rattle.meta_tables.specs.Cells.{metadata_of, AreHeapsOf}
 use Rattle.byte_view.proofs.Refusals.{refuses_as}
 use Rattle.meta_tables.proofs.Tables.{table_start_next}

@@ -36,7 +36,12 @@ pub record Sizes : Type 0 where
   pub rows : List ℕ
 
 abbrev pub sizes_of : Heaps → List ℕ → Sizes
-sizes_of h rows = record { strings = length h.strings.now; guids = length h.guids.now; blobs = length h.blobs.now; rows = rows }
+sizes_of h rows = record {
+  strings = length h.strings.now;
+  guids = length h.guids.now;
+  blobs = length h.blobs.now;
+  rows = rows;
+}
 
 -- the row of a tag's table, from 1
 abbrev pub is_row_by : List ℕ → Option (Option ℕ) → ℕ → Bool
@@ -51,7 +56,8 @@ sound_by s StringOffset before value = value == 0 || nat_lt value s.strings
 sound_by s GuidNumber before value = nat_le (16 * value) s.guids
 sound_by s BlobOffset before value = value == 0 || nat_lt value s.blobs
 sound_by s (RowOf table) before value = nat_le value (slice_index s.rows table)
-sound_by s (RunOf table) before value = nat_le 1 value && nat_le value (slice_index s.rows table + 1) && nat_le before value
+sound_by s (RunOf table) before value =
+    nat_le 1 value && nat_le value (slice_index s.rows table + 1) && nat_le before value
 sound_by s (CodedRow tag_bits tables) before value =
     value == 0 || is_row_by s.rows (slice_get tables (value % 2 ^ tag_bits)) (value / 2 ^ tag_bits)
 
@@ -59,10 +65,13 @@ abbrev pub sound_in : Sizes → Option Column → ℕ → ℕ → Bool
 sound_in s None before value = true
 sound_in s (Some column) before value = sound_by s column before value
 
--- the test of a cell of a row, which begins at a place, by the numbers of the row before and of the row
+-- the test of a cell of a row, which begins at a place, by the numbers of the row before and of the
+-- row
 abbrev pub tests_row : Sizes → List Column → List ℕ → ℕ → List ℕ → List ℕ → ℕ → Result ℕ Broken
 tests_row s columns widths start before row column =
-    must (sound_in s (slice_get columns column) (slice_index before column) (slice_index row column)) (parts.cell, start + sum (take column widths))
+    must
+    (sound_in s (slice_get columns column) (slice_index before column) (slice_index row column))
+    (parts.cell, start + sum (take column widths))
 
 -- the numbers of the row before, zeros at the first
 abbrev pub row_before : List ℕ → Layout → ℕ → ℕ → List ℕ

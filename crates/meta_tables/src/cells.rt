@@ -17,9 +17,9 @@ use crate::layout::Layout;
 use crate::rows::{row_from, shape_in, start_in};
 use bound_base::{BadImage, Part};
 
-/// The tables whose cells are checked: Module, TypeRef, TypeDef, Field, MethodDef, Param, InterfaceImpl, MemberRef,
-/// FieldMarshal, ClassLayout, FieldLayout, StandAloneSig, MethodImpl, ModuleRef, TypeSpec, ImplMap, FieldRVA,
-/// AssemblyRef and NestedClass.
+/// The tables whose cells are checked: Module, TypeRef, TypeDef, Field, MethodDef, Param,
+/// InterfaceImpl, MemberRef, FieldMarshal, ClassLayout, FieldLayout, StandAloneSig, MethodImpl,
+/// ModuleRef, TypeSpec, ImplMap, FieldRVA, AssemblyRef and NestedClass.
 static CHECKED_TABLES: [u8; 19] = [
     0x00, 0x01, 0x02, 0x04, 0x06, 0x08, 0x09, 0x0A, 0x0D, 0x0F, 0x10, 0x11, 0x19, 0x1A, 0x1B, 0x1C,
     0x1D, 0x23, 0x29,
@@ -60,7 +60,8 @@ fn check_table(stream: &[u8], layout: &Layout, heaps: &Heaps<'_>, table: u8) -> 
     Ok(())
 }
 
-/// Refuses the first cell of a row that isn't sound; `before` is the row before, zeros at the first.
+/// Refuses the first cell of a row that isn't sound; `before` is the row before, zeros at the
+/// first.
 fn check_row(
     heaps: &Heaps<'_>,
     rows: &[u32],
@@ -74,7 +75,7 @@ fn check_row(
     requires start { start < 2 ^ 63 }
     ensures reads { Reads refusal (λ _. 0) result
         (each (tests_row (sizes_of heaps.now rows.now) (map view_column columns.now)
-            (map bytes_of widths.now) start before.now row.now) (length columns.now)) }
+        (map bytes_of widths.now) start before.now row.now) (length columns.now)) }
     ensures memory { ¬ WantsMemory refusal result }
 {
     let mut place = start;

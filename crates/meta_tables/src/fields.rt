@@ -1,5 +1,5 @@
-//! Fields of a part of an image: a number, or the part and the place where its bytes are missing. None of these takes
-//! memory.
+//! Fields of a part of an image: a number, or the part and the place where its bytes are missing.
+//! None of these takes memory.
 
 ghost use Rattle.std.specs.Option.{option_copied};
 ghost use Rattle.std.specs.Prelude.{◌≡◌, ◌==◌, position};

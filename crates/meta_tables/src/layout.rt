@@ -26,7 +26,8 @@ pub struct Shape {
     pub row_width: usize,
 }
 
-/// HeapSizes, and of each table by its number the row count, the file offset of its rows, and their shape.
+/// HeapSizes, and of each table by its number the row count, the file offset of its rows, and their
+/// shape.
 #[derive(Debug, Drop)]
 pub struct Layout {
     pub heap_sizes: u8,
@@ -35,8 +36,8 @@ pub struct Layout {
     pub shapes: Vec<Shape>,
 }
 
-/// The layout of the stream, or the first field of it that is missing or wrong. Memory is wanted only where the stream's
-/// header is sound.
+/// The layout of the stream, or the first field of it that is missing or wrong. Memory is wanted
+/// only where the stream's header is sound.
 #[tactic(auto, unfolding(byte_view::specs::Layout::layout))]
 pub fn read_layout(alloc: Global, image: &[u8], start: usize) -> Result<Layout, BadImage>
     requires { start ≤ length image.now }
@@ -151,7 +152,8 @@ fn row_counts(alloc: Global, image: &[u8], start: usize, valid: u64) -> Result<V
 
 /// The width of a column by its place in its table; none after the last.
 fn cell_width(heap_sizes: u8, rows: &[u32], columns: &[Column], at: usize) -> Width
-    ensures { bytes_of result ≡ width_at heap_sizes rows.now (slice_get (map view_column columns.now) at) }
+    ensures { bytes_of result
+        ≡ width_at heap_sizes rows.now (slice_get (map view_column columns.now) at) }
 {
     match columns.get(at) {
         Some(column) => width_of(heap_sizes, rows, *column),

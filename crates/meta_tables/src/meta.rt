@@ -43,10 +43,10 @@ impl<'a> Model for Meta<'a> {
 
 /// Reads the metadata that lies at the file offset `at` and has `size` bytes.
 ///
-/// An image is refused for its first part that is broken, from the metadata root to the cells of the checked tables
-/// (ECMA-335 II.24.2 and II.22), at the file offset of the first field that is missing or wrong; and with
-/// `BadImage::Memory` where there is no memory for the places of the tables, which are asked for once the streams and the
-/// header of `#~` are sound.
+/// An image is refused for its first part that is broken, from the metadata root to the cells of
+/// the checked tables (ECMA-335 II.24.2 and II.22), at the file offset of the first field that is
+/// missing or wrong; and with `BadImage::Memory` where there is no memory for the places of the
+/// tables, which are asked for once the streams and the header of `#~` are sound.
 pub fn read_meta(alloc: Global, bytes: &[u8], at: u64, size: u32) -> Result<Meta<'_>, BadImage>
     requires { at + size ≤ length bytes.now }
     ensures reads { Reads refusal (λ m. m) result (metadata bytes.now at size) }
@@ -75,8 +75,8 @@ impl Meta<'_> {
         rows_at(self.layout.rows.as_slice(), table)
     }
 
-    /// The numbers of a row, counted from 1, column after column, and 0 for those that its table doesn't have
-    /// (ECMA-335 II.22). None exactly outside 1 to `rows`.
+    /// The numbers of a row, counted from 1, column after column, and 0 for those that its table
+    /// doesn't have (ECMA-335 II.22). None exactly outside 1 to `rows`.
     pub fn row(&self, table: u8, n: u32) -> Option<[u32; 9]>
         ensures { result ≡ row_of self.now table n }
     {
@@ -89,7 +89,8 @@ impl Meta<'_> {
         Some(row_in(self.stream, &self.layout, table, n - 1))
     }
 
-    /// The file offset at which a row begins, counted from 1 (ECMA-335 II.24.2.6). None exactly outside 1 to `rows`.
+    /// The file offset at which a row begins, counted from 1 (ECMA-335 II.24.2.6). None exactly
+    /// outside 1 to `rows`.
     pub fn row_place(&self, table: u8, n: u32) -> Option<u64>
         ensures { result ≡ row_place self.now table n }
     {
@@ -99,24 +100,25 @@ impl Meta<'_> {
         Some(row_start(self.stream, &self.layout, table, n - 1) as u64)
     }
 
-    /// The bytes at an offset of `#Strings` up to a zero (ECMA-335 II.24.2.3). None where no zero follows.
+    /// The bytes at an offset of `#Strings` up to a zero (ECMA-335 II.24.2.3). None where no zero
+    /// follows.
     pub fn string(&self, at: u32) -> Option<&[u8]>
         ensures { option_copied result ≡ text_of self.now.strings at }
     {
         text_at(self.heaps.strings, at as usize)
     }
 
-    /// The bytes of the entry at an offset of `#Blob` (ECMA-335 II.24.2.4). None where the heap holds no whole entry
-    /// there.
+    /// The bytes of the entry at an offset of `#Blob` (ECMA-335 II.24.2.4). None where the heap
+    /// holds no whole entry there.
     pub fn blob(&self, at: u32) -> Option<&[u8]>
         ensures { option_copied result ≡ blob_at self.now.blobs at }
     {
         entry_at(self.heaps.blobs, at as usize)
     }
 
-    /// The UTF-16 units of the entry at an offset of `#US` (ECMA-335 II.24.2.4): its bytes by two, an odd last byte left
-    /// out. None where the heap holds no whole entry there; an error where there is no memory for the units, of which
-    /// there is at least one then.
+    /// The UTF-16 units of the entry at an offset of `#US` (ECMA-335 II.24.2.4): its bytes by two,
+    /// an odd last byte left out. None where the heap holds no whole entry there; an error where
+    /// there is no memory for the units, of which there is at least one then.
     pub fn user_string(&self, alloc: Global, at: u32) -> Result<Option<Units>, NoMemory>
         ensures units { IfOk result (λ units. units ≡ user_string_at self.now.user_strings at) }
         ensures memory { IsErr result

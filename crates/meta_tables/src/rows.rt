@@ -1,4 +1,5 @@
-//! Rows of a table, as numbers (ECMA-335 II.24.2.6). `stream` is the file up to the end of the `#~` stream.
+//! Rows of a table, as numbers (ECMA-335 II.24.2.6). `stream` is the file up to the end of the `#~`
+//! stream.
 
 ghost use Rattle.std.specs.Prelude.{◌≡◌, ◌+◌, ◌*◌, ◌^◌, ◌<◌, ◌≤◌, map, length, slice_index};
 ghost use Rattle.std.specs.List.{sum_by};

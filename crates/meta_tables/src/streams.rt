@@ -1,5 +1,5 @@
-//! The metadata root and its streams (ECMA-335 II.24.2.1 and II.24.2.2). `image` is the file up to the end of its
-//! metadata, which begins at `at`.
+//! The metadata root and its streams (ECMA-335 II.24.2.1 and II.24.2.2). `image` is the file up to
+//! the end of its metadata, which begins at `at`.
 
 ghost use Rattle.std.specs.Prelude.{◌≡◌, ◌≤◌, length, Some, IfOk};
 ghost use Rattle.bound_base.specs.Image.{refusal};

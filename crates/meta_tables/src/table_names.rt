@@ -1,5 +1,5 @@
-//! Tables by their numbers, and columns of their rows by their places from 0, under the names of ECMA-335 II.22: those
-//! that are read one by one.
+//! Tables by their numbers, and columns of their rows by their places from 0, under the names of
+//! ECMA-335 II.22: those that are read one by one.
 
 /// ModuleRef, of which each row names a library (II.22.31).
 pub const MODULE_REF: u8 = 0x1A;

@@ -6,7 +6,11 @@ use Rattle.pe_reader.specs.declared.headers.Pe.{Pe}
 use Rattle.pe_reader.specs.declared.headers.Front.{Front}
 
 abbrev pub section_of : Section → definition.Section
-section_of section = record { rva = section.rva; raw_at = section.raw_at; raw_size = section.raw_size }
+section_of section = record {
+  rva = section.rva;
+  raw_at = section.raw_at;
+  raw_size = section.raw_size;
+}
 
 abbrev pub sections_of : Pe → List definition.Section
 sections_of pe = map section_of pe.sections

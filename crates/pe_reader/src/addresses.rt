@@ -8,8 +8,8 @@ ghost use Rattle.pe_reader.specs.Pe.{section_of, sections_of};
 use crate::headers::Pe;
 use crate::sections::{Section, Sections};
 
-/// The `len` bytes from the address `rva` on. None exactly where no section's raw data in the file holds them all;
-/// the first section that does counts (ECMA-335 II.25.3).
+/// The `len` bytes from the address `rva` on. None exactly where no section's raw data in the file
+/// holds them all; the first section that does counts (ECMA-335 II.25.3).
 pub fn at_rva<'a>(bytes: &'a [u8], pe: &Pe, rva: u32, len: u32) -> Option<&'a [u8]>
     ensures { option_copied result ≡ definition.bytes_at bytes.now (sections_of pe.now) rva len }
 {
@@ -17,8 +17,9 @@ pub fn at_rva<'a>(bytes: &'a [u8], pe: &Pe, rva: u32, len: u32) -> Option<&'a [u
     Some(&bytes[at..at + len as usize])
 }
 
-/// The bytes from the address `rva` to the end of its section's raw data in the file. None exactly where no
-/// section's raw data in the file holds the byte at `rva`; the first section that does counts (ECMA-335 II.25.3).
+/// The bytes from the address `rva` to the end of its section's raw data in the file. None exactly
+/// where no section's raw data in the file holds the byte at `rva`; the first section that does
+/// counts (ECMA-335 II.25.3).
 #[tactic(auto, unfolding(byte_view::specs::Headers::holds_range))]
 pub fn rest_at<'a>(bytes: &'a [u8], pe: &Pe, rva: u32) -> Option<&'a [u8]>
     ensures { option_copied result ≡ definition.bytes_from bytes.now (sections_of pe.now) rva }
@@ -28,7 +29,8 @@ pub fn rest_at<'a>(bytes: &'a [u8], pe: &Pe, rva: u32) -> Option<&'a [u8]>
     Some(&bytes[section.raw_place(rva)..end])
 }
 
-/// The file offset of a range of addresses, in a file of `size` bytes; None where no section holds the range.
+/// The file offset of a range of addresses, in a file of `size` bytes; None where no section holds
+/// the range.
 #[tactic(auto, unfolding(byte_view::specs::Headers::file_place, byte_view::specs::Headers::holds_range))]
 pub fn file_place(sections: &Sections, size: usize, rva: u32, len: u32) -> Option<usize>
     ensures place { result ≡ definition.file_place (map section_of sections.now) size rva len }
@@ -42,7 +44,8 @@ pub fn file_place(sections: &Sections, size: usize, rva: u32, len: u32) -> Optio
 fn section_that_holds(sections: &Sections, size: usize, rva: u32, len: u32) -> Option<Section>
     ensures first { option_map section_of result
         ≡ find (definition.holds_range size rva len) (map section_of sections.now) }
-    ensures holds { IfSome result (λ section. IsTrue (definition.holds_range size rva len (section_of section))) }
+    ensures holds { IfSome result (λ section.
+        IsTrue (definition.holds_range size rva len (section_of section))) }
 {
     sections
         .as_slice()

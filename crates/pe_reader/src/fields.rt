@@ -1,4 +1,5 @@
-//! The fields of a header, and what is refused where one is missing or wrong. None of these takes memory.
+//! The fields of a header, and what is refused where one is missing or wrong. None of these takes
+//! memory.
 
 ghost use Rattle.std.specs.Prelude.{◌≡◌};
 ghost use Rattle.bound_base.specs.Image.{part_place, refusal};

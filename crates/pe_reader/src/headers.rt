@@ -53,12 +53,14 @@ pub struct Pe {
     pub sections: Sections,
 }
 
-/// Reads the headers of a PE file up to the range of the metadata, which lies in the file (ECMA-335 II.25).
+/// Reads the headers of a PE file up to the range of the metadata, which lies in the file (ECMA-335
+/// II.25).
 ///
-/// `Bad` names the first part that is broken, of those from `mz` to `cli flags`, and the file offset of its first
-/// field that is missing or wrong. Where no section holds the range of the metadata, it is `metadata root` at the
-/// CLI header's field of that range. `Memory` says that there is no memory for the sections: it comes only where the
-/// headers before those of the sections are sound, and the file has 1 to 96 sections.
+/// `Bad` names the first part that is broken, of those from `mz` to `cli flags`, and the file
+/// offset of its first field that is missing or wrong. Where no section holds the range of the
+/// metadata, it is `metadata root` at the CLI header's field of that range. `Memory` says that
+/// there is no memory for the sections: it comes only where the headers before those of the
+/// sections are sound, and the file has 1 to 96 sections.
 #[tactic(auto, unfolding(byte_view::specs::Headers::headers))]
 pub fn read_pe(alloc: Global, bytes: &[u8]) -> Result<Pe, BadImage>
     ensures headers { Reads refusal headers_of result (definition.headers bytes.now) }
@@ -79,8 +81,8 @@ pub fn read_pe(alloc: Global, bytes: &[u8]) -> Result<Pe, BadImage>
     })
 }
 
-/// The headers before those of the sections: where the PE signature stands, how many section headers there are and the
-/// file offset of the first, and that of the CLI header's directory.
+/// The headers before those of the sections: where the PE signature stands, how many section
+/// headers there are and the file offset of the first, and that of the CLI header's directory.
 #[derive(Clone, Copy)]
 pub struct Front {
     pub signature: usize,
@@ -131,7 +133,8 @@ struct SectionTable {
     at: usize,
 }
 
-/// The section headers that the file header tells of, which stand behind the optional header (II.25.2.2).
+/// The section headers that the file header tells of, which stand after the optional header
+/// (II.25.2.2).
 #[tactic(auto, unfolding(byte_view::specs::Headers::section_table))]
 fn section_table(bytes: &[u8], pe_at: usize) -> Result<SectionTable, BadImage>
     requires { pe_at < 2 ^ 32 }
@@ -152,7 +155,8 @@ fn section_table(bytes: &[u8], pe_at: usize) -> Result<SectionTable, BadImage>
 #[tactic(auto, unfolding(byte_view::specs::Headers::directory_count_place))]
 fn directory_count_place(bytes: &[u8], optional: usize) -> Result<usize, BadImage>
     requires { optional < 2 ^ 33 }
-    ensures place { Reads refusal (λ x. x) result (definition.directory_count_place bytes.now optional) }
+    ensures place { Reads refusal (λ x. x) result
+        (definition.directory_count_place bytes.now optional) }
     ensures memory { ¬ WantsMemory refusal result }
     ensures small { IfOk result (λ at. at < 2 ^ 34) }
 {
@@ -164,7 +168,8 @@ fn directory_count_place(bytes: &[u8], optional: usize) -> Result<usize, BadImag
     }
 }
 
-/// Where the CLI header's data directory stands, the fifteenth of 8 bytes each behind their number (II.25.2.3.3).
+/// Where the CLI header's data directory stands, the fifteenth of 8 bytes each after their number
+/// (II.25.2.3.3).
 #[tactic(auto, unfolding(byte_view::specs::Headers::cli_directory))]
 fn cli_directory(bytes: &[u8], count_at: usize) -> Result<usize, BadImage>
     requires { count_at < 2 ^ 34 }
@@ -180,7 +185,8 @@ fn cli_directory(bytes: &[u8], count_at: usize) -> Result<usize, BadImage>
     Ok(at)
 }
 
-/// Where the CLI header lies, whose flags say that there is only IL and no native entry point (II.25.3.3.1).
+/// Where the CLI header lies, whose flags say that there is only IL and no native entry point
+/// (II.25.3.3.1).
 #[tactic(auto, unfolding(byte_view::specs::Headers::cli_header_place))]
 fn cli_header_place(bytes: &[u8], sections: &Sections, directory: usize) -> Result<usize, BadImage>
     requires { directory + 8 ≤ length bytes.now }
@@ -190,8 +196,10 @@ fn cli_header_place(bytes: &[u8], sections: &Sections, directory: usize) -> Resu
     ensures within { IfOk result (λ at. at + 72 ≤ length bytes.now) }
 {
     let rva = number32(bytes, directory);
-    let at = file_place(sections, bytes.len(), rva, CLI_HEADER_SIZE)
-        .ok_or(bad(Part::CliHeader, directory))?;
+    let at = file_place(sections, bytes.len(), rva, CLI_HEADER_SIZE).ok_or(bad(
+        Part::CliHeader,
+        directory,
+    ))?;
     let flags = number32(bytes, at + 16);
     must(
         flags & (IL_ONLY | NATIVE_ENTRY_POINT) == IL_ONLY,

@@ -1,4 +1,5 @@
-//! Reads the headers of a PE file that holds an assembly (ECMA-335 II.25), and the bytes at its addresses.
+//! Reads the headers of a PE file that holds an assembly (ECMA-335 II.25), and the bytes at its
+//! addresses.
 #![tactic(auto)]
 
 mod addresses;

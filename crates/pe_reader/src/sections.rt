@@ -32,7 +32,8 @@ pub struct Section {
 pub type Sections = Items<Section>;
 
 impl Section {
-    /// Whether the raw data, in a file of `size` bytes, has each of the `len` bytes from the address `rva` on.
+    /// Whether the raw data, in a file of `size` bytes, has each of the `len` bytes from the
+    /// address `rva` on.
     #[tactic(auto, unfolding(byte_view::specs::Headers::holds_range))]
     pub fn holds(&self, size: usize, rva: u32, len: u32) -> bool
         ensures { result ≡ definition.holds_range size rva len (section_of self.now) }
@@ -60,7 +61,8 @@ impl Section {
     }
 }
 
-/// The sections of a file whose PE signature is at `pe_at`: `count` headers from `at` on, one after another.
+/// The sections of a file whose PE signature is at `pe_at`: `count` headers from `at` on, one after
+/// another.
 #[tactic(auto, unfolding(byte_view::specs::Headers::sections_of))]
 pub fn read_sections(
     alloc: Global,

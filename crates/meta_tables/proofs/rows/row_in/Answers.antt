@@ -1,6 +1,4 @@
-use Rattle.std.proofs.Common.{List, ℕ, ◌+◌, ◌≡◌, map, ap, ◌∙◌, arith}
-use Rattle.std.specs.List.{sum_by}
-use Rattle.byte_view.specs.Columns.{row_width}
+use Rattle.std.proofs.Common.{List, ℕ, ◌≡◌, map, ap, ◌∙◌, arith}
 use Rattle.meta_tables.specs.View.{bytes_of}
 use Rattle.meta_tables.specs.Shapes.{view_layout, cell_widths}
 use Rattle.meta_tables.proofs.RowCells.{row_is, shape_width, has_rows}

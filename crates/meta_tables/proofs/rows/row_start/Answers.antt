@@ -1,5 +1,4 @@
-use Rattle.std.proofs.Common.{List, ℕ, ◌+◌, ◌*◌, ◌≡◌, get_or, ap, ◌∙◌, arith}
-use Rattle.byte_view.specs.Columns.{row_width}
+use Rattle.std.proofs.Common.{◌∙◌, arith}
 use Rattle.meta_tables.proofs.RowCells.{row_lies, row_starts, row_ends, has_rows}
 use Rattle.meta_tables.proofs.rows.row_start.Goals as goal
 
