@@ -34,7 +34,8 @@ unfoldable pub root : List ℕ → ℕ → Result (ℕ × ℕ) Broken
 root image at = do
   _ ← field_where (λ signature. signature == 0x424A5342) parts.metadata_root image at 4
   len ←
-      field_where (λ len. nat_le (at + 16 + len) (length image)) parts.metadata_root image (at + 12) 4
+      field_where (λ len. nat_le (at + 16 + len) (length image))
+      parts.metadata_root image (at + 12) 4
   count ← field parts.metadata_root image (at + 16 + len + 2) 2
   Ok (count, at + 16 + len + 4)
 

@@ -8,6 +8,3 @@ pub mod laws;
 mod numbers;
 
 pub use numbers::{compressed, le8, le16, le32, le64, number8, number16, number32, number64};
-
-#[cfg(test)]
-mod tests;
