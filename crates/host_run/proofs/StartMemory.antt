@@ -5,20 +5,20 @@ use Rattle.std.proofs.lemmas.Bool.{le-leb}
 use Rattle.bound_base.specs.declared.limits.Limits.{Limits}
 use Rattle.bound_base.specs.Limits.{standard}
 use Rattle.native_memory.specs.declared.kind.Kind.TheVariants.{Stack, Errno}
-use Rattle.native_memory.specs.AddressSpace.{AddressSpace, empty, live_bytes}
+use Rattle.native_memory.specs.AddressSpace.{AddressSpace, data_rights, empty, live_bytes}
 use Rattle.native_memory.specs.Placement.{placed}
-use Rattle.host_run.specs.Native.{data_rights, data_block, space_with, start_space}
+use Rattle.host_run.specs.Native.{data_block, space_with_stack, start_space}
 
 -- with the number of the last error alone
 errno_space : AddressSpace
-errno_space = record { limit = standard.native; next = 0x10020; edge = 0x10004; blocks = data_block 0x10000 4 Errno ∷ []; written = 0 }
+errno_space = record { limit = standard.native; next = 0x10020; edge = 0x10004; blocks = data_block 0x10000 4 Errno ∷ [] }
 
 place-errno : placed (empty standard.native) 4 data_rights Errno ≡ Some errno_space
 unfolding placed live_bytes errno_space
 place-errno = refl
 
-place-stack : (n : ℕ) → 0 < n → n ≤ 2 ^ 27 → placed errno_space n data_rights Stack ≡ Some (space_with n)
-unfolding placed live_bytes errno_space space_with
+place-stack : (n : ℕ) → 0 < n → n ≤ 2 ^ 27 → placed errno_space n data_rights Stack ≡ Some (space_with_stack n)
+unfolding placed live_bytes errno_space space_with_stack
 place-stack n some small =
     let bytes : 4 + n ≤ 268435456 = omega arith in
     let place : 65568 + (n + 15) / 16 * 16 + 16 ≤ 2 ^ 46 = omega arith in

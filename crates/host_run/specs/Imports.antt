@@ -5,31 +5,26 @@ use Rattle.bound_base.specs.Names.{escaped}
 use Rattle.byte_view.specs.Reading.{Broken}
 use Rattle.byte_view.specs.Heaps.{text_at}
 use Rattle.byte_view.specs.Metadata.{Metadata, table_of, row_of}
+use Rattle.byte_view.specs.TableNames.{module_ref, module_ref_name, impl_map, impl_map_import_name, impl_map_import_scope}
 use Rattle.host_run.specs.Answer.{Answer, done, bad_image}
 
-abbrev pub module_ref : ℕ
-module_ref = 0x1A
-
-abbrev pub impl_map : ℕ
-impl_map = 0x1C
-
 -- the name at an offset of `#Strings`, empty where no whole entry is there
-abbrev pub name_at : Metadata → ℕ → List ℕ
-name_at m at = unwrap_or (text_at m.strings at) []
+abbrev pub name_in : Metadata → ℕ → List ℕ
+name_in m at = unwrap_or (text_at m.strings at) []
 
 abbrev pub name_of_module : Metadata → Option (List ℕ) → List ℕ
 name_of_module m None = []
-name_of_module m (Some row) = name_at m (slice_index row 0)
+name_of_module m (Some row) = name_in m (slice_index row module_ref_name)
 
 -- the name of a row of ModuleRef, empty for row 0
 unfoldable pub module_name : Metadata → ℕ → List ℕ
 module_name m scope = name_of_module m (row_of m module_ref scope)
 
--- the printed module, a space, the printed entry name and a line end; ImportName and ImportScope are the third
--- and the fourth column
+-- the printed module, a space, the printed entry name and a line end
 unfoldable pub import_line : Metadata → List ℕ → List ℕ
 import_line m row =
-    (escaped (module_name m (slice_index row 3)) ++ 32 ∷ []) ++ (escaped (name_at m (slice_index row 2)) ++ 10 ∷ [])
+    (escaped (module_name m (slice_index row impl_map_import_scope)) ++ 32 ∷ [])
+    ++ (escaped (name_in m (slice_index row impl_map_import_name)) ++ 10 ∷ [])
 
 unfoldable pub imports_text : Metadata → List ℕ
 imports_text m = flat_map (import_line m) (table_of m impl_map)

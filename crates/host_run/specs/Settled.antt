@@ -1,14 +1,9 @@
 -- How a call ends: it is settled by a status and texts for err, or halted before that.
-use Rattle.std.specs.Prelude.{◌≡◌, ℕ, List, [], flat_map, Result, Ok, Err, ⊤}
+use Rattle.std.specs.Prelude.{◌≡◌, ℕ, List, [], flat_map, Option, Some, None, Result, Ok, Err, ⊤}
 use Rattle.bound_base.specs.declared.ending.Ending.TheVariants as ending
 use Rattle.bound_base.specs.declared.ending.Ending.{Ending}
-use Rattle.bound_base.specs.declared.image.BadImage.{BadImage}
-use Rattle.bound_base.specs.declared.image.BadImage.TheVariants as image
 use Rattle.bound_base.specs.Ending.{status}
-use Rattle.bound_base.specs.Image as parts
-use Rattle.elf_reader.specs.declared.part.ElfBad.{ElfBad}
-use Rattle.elf_reader.specs.declared.part.ElfBad.TheVariants as library
-use Rattle.elf_reader.specs.Refusals as library_parts
+use Rattle.byte_view.specs.Reading.{Broken}
 use Rattle.host_run.specs.declared.settled.Settled.{Settled}
 use Rattle.host_run.specs.declared.settled.Halt.{Halt}
 use Rattle.host_run.specs.declared.settled.Halt.TheVariants.{Unreadable, SinkFailed, Memory}
@@ -16,7 +11,7 @@ use Rattle.bound_base.specs.declared.put.PutError.{PutError}
 use Rattle.bound_base.specs.declared.put.PutError.TheVariants as put
 use Rattle.host_run.specs.declared.files.FileError.{FileError}
 use Rattle.host_run.specs.declared.files.FileError.TheVariants as file
-use Rattle.host_run.specs.Answer.{Answer, absent, too_large, bad_image, bad_library, ended}
+use Rattle.host_run.specs.Answer.{Answer, absent, too_large, ended}
 use Rattle.host_run.specs.Texts.{unreadable_line, memory_line}
 
 -- texts, one after another
@@ -62,15 +57,10 @@ SettlesFile name file.Failed result = result ≡ Err (Unreadable name)
 SettlesFile name file.TooLarge result = SettlesAs (too_large name) result
 SettlesFile name file.Memory result = result ≡ Err Memory
 
--- an image is broken
-abbrev pub SettlesImage : BadImage → Result Settled Halt → Type 0
-SettlesImage (image.Bad part offset) result = SettlesAs (bad_image (parts.part_place part) offset) result
-SettlesImage image.Memory result = result ≡ Err Memory
-
--- a library of a name is broken
-abbrev pub SettlesLibrary : List ℕ → ElfBad → Result Settled Halt → Type 0
-SettlesLibrary name (library.BadElf part offset) result = SettlesAs (bad_library name (library_parts.part_place part) offset) result
-SettlesLibrary name library.Memory result = result ≡ Err Memory
+-- A part is broken, by its place and its file offset, which an error says; one that says nothing is want of memory.
+abbrev pub SettlesBroken : (ℕ → ℕ → Answer) → Option Broken → Result Settled Halt → Type 0
+SettlesBroken refuses (Some broken) result = SettlesAs (refuses broken.0 broken.1) result
+SettlesBroken refuses None result = result ≡ Err Memory
 
 -- native code comes to these endings alone
 abbrev pub IsNativeEnding : Ending → Type 0

@@ -4,7 +4,7 @@ ghost use Rattle.std.specs.Prelude.{◌≡◌, ◌≤◌, ◌∷◌, ◌++◌, [
 ghost use Rattle.std.specs.Option.{option_copied};
 ghost use Rattle.bound_base.specs.Outside.{Rose};
 ghost use Rattle.byte_view.specs.Assembly.{assembly};
-ghost use Rattle.host_run.specs.Imports.{name_at as name_in, module_name as module_of, import_line, imports_text, imports_of};
+ghost use Rattle.host_run.specs.Imports.{name_in, module_name as module_of, import_line, imports_text, imports_of};
 ghost use Rattle.bound_base.specs.Put.{Puts, CountsPut};
 ghost use Rattle.host_run.specs.Called.{of_sink, Finishes};
 ghost use Rattle.bound_base.specs.Names.{escaped};
@@ -12,13 +12,11 @@ ghost use Rattle.bound_base.specs.Names.{escaped};
 use crate::refusals::broken_image;
 use crate::settled::{Halt, Settled};
 use bound_base::{PutError, Sink, escape};
-use meta_tables::{Meta, read_meta};
+use meta_tables::{
+    IMPL_MAP, IMPL_MAP_IMPORT_NAME, IMPL_MAP_IMPORT_SCOPE, MODULE_REF, MODULE_REF_NAME, Meta, read_meta,
+};
 use pe_reader::read_pe;
 use std::alloc::Global;
-
-const MODULE_REF: u8 = 0x1A;
-
-const IMPL_MAP: u8 = 0x1C;
 
 /// Puts the imports of an assembly, or settles the call by its first broken part.
 pub fn put_imports_of<O: Sink>(
@@ -69,11 +67,11 @@ fn put_import<O: Sink>(
     ensures counted { CountsPut result (O.faults out.old) (O.faults out.new) }
     ensures count { O.faults out.old ≤ O.faults out.new }
 {
-    put_name(alloc, module_name(meta, row[3]), b' ', out)?;
-    put_name(alloc, name_at(meta, row[2]), b'\n', out)
+    put_name(alloc, module_name(meta, row[IMPL_MAP_IMPORT_SCOPE]), b' ', out)?;
+    put_name(alloc, name_in(meta, row[IMPL_MAP_IMPORT_NAME]), b'\n', out)
 }
 
-/// Puts a name as it is printed, and a byte behind it.
+/// Puts a name as it is printed, and a byte after it.
 fn put_name<O: Sink>(alloc: Global, name: &[u8], end: u8, out: &mut O) -> Result<(), PutError>
     ensures puts { Puts (escaped name.now ++ end ∷ []) result (O.contents out.old) (O.contents out.new) }
     ensures counted { CountsPut result (O.faults out.old) (O.faults out.new) }
@@ -90,12 +88,12 @@ fn module_name<'m>(meta: &'m Meta, scope: u32) -> &'m [u8]
     ensures { result.now ≡ module_of meta.now scope }
 {
     match meta.row(MODULE_REF, scope) {
-        Some(row) => name_at(meta, row[0]),
+        Some(row) => name_in(meta, row[MODULE_REF_NAME]),
         None => &[],
     }
 }
 
-fn name_at<'m>(meta: &'m Meta, at: u32) -> &'m [u8]
+fn name_in<'m>(meta: &'m Meta, at: u32) -> &'m [u8]
     ensures { result.now ≡ name_in meta.now at }
 {
     meta.string(at).unwrap_or(&[])

@@ -2,12 +2,15 @@
 
 ghost use Rattle.std.specs.Prelude.{◌≡◌, ◌≤◌, [], length, Some, IfOk, OnOk, IsSome};
 ghost use Rattle.native_memory.specs.Placement.{placed};
-ghost use Rattle.elf_reader.specs.Refusals.{Reads};
+ghost use Rattle.bound_base.specs.Limits.{standard};
+ghost use Rattle.byte_view.specs.Reading.{Reads};
+ghost use Rattle.native_memory.specs.AddressSpace.{data_rights};
+ghost use Rattle.elf_reader.specs.Refusals.{refusal};
 ghost use Rattle.host_bridge.specs.Places.{first_lane};
-ghost use Rattle.host_bridge.specs.NativeRun.{native_run};
+ghost use Rattle.host_bridge.specs.SymbolRun.{symbol_run};
 ghost use Rattle.host_run.specs.Commands.{IsAnswer};
 ghost use Rattle.host_run.specs.Answer.{done};
-ghost use Rattle.host_run.specs.Native.{data_rights, start_space, bound_alone, native_fuel, run_answer, native_of};
+ghost use Rattle.host_run.specs.Native.{start_space, bound_alone, native_fuel, run_answer, native_of};
 ghost use Rattle.bound_base.specs.Put.{Puts, CountsPut};
 ghost use Rattle.host_run.specs.Readings.{readings, names_of};
 ghost use Rattle.host_run.specs.Called.{of_store, of_sink, Finishes, Obeys};
@@ -20,11 +23,11 @@ use crate::files::read_file;
 use crate::refusals::{broken_library, ended, no_symbol, unread};
 use crate::settled::{Halt, Settled};
 use crate::texts::{copy_of, number_line};
-use bound_base::{Bytes, NoMemory, PutError, Rights, Sink, Store, standard_limits};
+use bound_base::{Bytes, NoMemory, PutError, Sink, Store, standard_limits};
 use elf_binder::{BindBad, Bound, bind};
 use elf_reader::{ElfBad, read_elf};
 use host_bridge::run_symbol;
-use native_memory::{Kind, Memory, PlaceBad};
+use native_memory::{DATA_RIGHTS, Kind, Memory, PlaceBad};
 use std::alloc::Global;
 use std::slice::from_ref;
 
@@ -88,7 +91,8 @@ fn call<O: Sink>(
 ) -> Result<Settled, Halt>
     requires { length numbers.now ≤ 8 }
     ensures { Finishes
-        (run_answer (native_run bound.now.inits at numbers.now native_fuel first_lane memory.old).answer) result
+        (run_answer (symbol_run first_lane standard.stack bound.now.inits at numbers.now native_fuel
+            memory.old.space).answer) result
         (of_sink (O.contents out.old) (O.contents out.new) (O.faults out.old) (O.faults out.new)) }
 {
     match run_symbol(alloc, bound, memory, at, numbers, FUEL) {
@@ -125,7 +129,8 @@ fn bind_alone(
     bytes: &Bytes,
     memory: &mut Memory,
 ) -> Result<Bound, ElfBad>
-    ensures { Reads (λ bound. (bound, memory.new)) result (bound_alone memory.old name.now bytes.now) }
+    ensures { Reads refusal (λ bound. (bound, memory.new.space)) result
+        (bound_alone memory.old.space name.now bytes.now) }
 {
     let elf = read_elf(alloc, bytes.as_slice())?;
     match bind(
@@ -143,7 +148,7 @@ fn bind_alone(
 
 /// Memory with the blocks that stand first: the number of the last error, and the stack.
 fn start_memory(alloc: Global) -> Result<Memory, NoMemory>
-    ensures { IfOk result (λ memory. memory ≡ start_space) }
+    ensures { IfOk result (λ memory. memory.space ≡ start_space) }
 {
     let limits = standard_limits();
     let mut memory = Memory::new(alloc, limits.native);
@@ -154,15 +159,10 @@ fn start_memory(alloc: Global) -> Result<Memory, NoMemory>
 
 /// Places a block that has room, for data.
 fn place_first(memory: &mut Memory, size: u64, kind: Kind) -> Result<(), NoMemory>
-    requires { IsSome (placed memory.old size data_rights kind) }
-    ensures { OnOk result (placed memory.old size data_rights kind ≡ Some memory.new) }
+    requires { IsSome (placed memory.old.space size data_rights kind) }
+    ensures { OnOk result (placed memory.old.space size data_rights kind ≡ Some memory.new.space) }
 {
-    let data = Rights {
-        r: true,
-        w: true,
-        x: false,
-    };
-    match memory.place(size, data, kind) {
+    match memory.place(size, DATA_RIGHTS, kind) {
         Ok(_) => Ok(()),
         Err(PlaceBad::Room) => unreachable!(),
         Err(PlaceBad::Memory) => Err(NoMemory),

@@ -2,7 +2,7 @@
 
 ghost use Rattle.std.specs.Prelude.{◌≡◌};
 ghost use Rattle.host_run.specs.Answer.{refused, usage, absent, too_large, bad_image, bad_library, no_symbol, ended};
-ghost use Rattle.host_run.specs.Settled.{SettlesAs, SettlesFile, SettlesImage, SettlesLibrary, SettlesEnding, IsNativeEnding};
+ghost use Rattle.host_run.specs.Settled.{SettlesAs, SettlesFile, SettlesBroken, SettlesEnding, IsNativeEnding};
 ghost use Rattle.bound_base.specs.Image as image;
 ghost use Rattle.elf_reader.specs.Refusals as library;
 
@@ -59,7 +59,7 @@ pub fn unread(alloc: Global, file: Word, error: FileError) -> Result<Settled, Ha
 
 /// An image that is broken.
 pub fn broken_image(alloc: Global, error: BadImage) -> Result<Settled, Halt>
-    ensures { SettlesImage error result }
+    ensures { SettlesBroken bad_image (image.refusal error) result }
 {
     match error {
         BadImage::Bad { part, at } => refused(alloc, 204, bad_image_line(alloc, part, at)?),
@@ -69,7 +69,7 @@ pub fn broken_image(alloc: Global, error: BadImage) -> Result<Settled, Halt>
 
 /// A library that is broken.
 pub fn broken_library(alloc: Global, name: &Word, error: ElfBad) -> Result<Settled, Halt>
-    ensures { SettlesLibrary name.now error result }
+    ensures { SettlesBroken (bad_library name.now) (library.refusal error) result }
 {
     match error {
         ElfBad::BadElf { part, at } => {

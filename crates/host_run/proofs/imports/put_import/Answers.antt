@@ -12,4 +12,4 @@ returns-in_err-put_name-clause-puts g c =
 pub returns-clause-puts : goal.returns-clause-puts
 unfolding import_line
 returns-clause-puts g c =
-    puts-after _ _ _ _ _ c.put_name-2.result (rw c.module_name.ensures at c.in_ok-put_name.ensures.puts) (rw c.name_at.ensures at c.put_name-2.ensures.puts)
+    puts-after _ _ _ _ _ c.put_name-2.result (rw c.module_name.ensures at c.in_ok-put_name.ensures.puts) (rw c.name_in.ensures at c.put_name-2.ensures.puts)

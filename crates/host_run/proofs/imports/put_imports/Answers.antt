@@ -3,7 +3,8 @@ use Rattle.std.specs.Prelude.{slice_get}
 use Rattle.std.specs.List.{flat_map}
 use Rattle.std.proofs.lemmas.Result.{err_from_is_err_and}
 use Rattle.byte_view.specs.Metadata.{table_of}
-use Rattle.host_run.specs.Imports.{impl_map, import_line, imports_text}
+use Rattle.host_run.specs.Imports.{import_line, imports_text}
+use Rattle.byte_view.specs.TableNames.{impl_map}
 use Rattle.host_run.proofs.Puts.{front-append, front-after, texts-split, lines-more, lines-past, row-at}
 use Rattle.host_run.proofs.imports.put_imports.Goals as goal
 use Rattle.host_run.proofs.imports.put_imports.Goals.{in-Some+in_ok-put_import-in-Some, in-None}

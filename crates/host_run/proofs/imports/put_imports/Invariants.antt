@@ -3,7 +3,8 @@ use Rattle.std.proofs.Common.{◌≡◌, take}
 use Rattle.std.specs.List.{flat_map}
 use Rattle.bound_base.specs.Outside.{appended}
 use Rattle.byte_view.specs.Metadata.{table_of}
-use Rattle.host_run.specs.Imports.{impl_map, import_line}
+use Rattle.host_run.specs.Imports.{import_line}
+use Rattle.byte_view.specs.TableNames.{impl_map}
 use Rattle.host_run.proofs.imports.put_imports.Given as goal
 
 abbrev pub invariant-loop-n : goal.invariant-loop-n

@@ -11,11 +11,11 @@ use Rattle.host_run.proofs.imports.put_imports_of.Goals as goal
 
 pub returns-in-Err : goal.returns-in-Err
 returns-in-Err g c =
-    finishes-broken c.in-Err.error (assembly c.args.bytes.now) c.broken_image.result _ (headers_refuse refusal c.in-Err.error c.args.bytes.now c.in-Err.ensures.headers) c.broken_image.ensures refl refl
+    finishes-broken (refusal c.in-Err.error) (assembly c.args.bytes.now) c.broken_image.result _ (headers_refuse refusal c.in-Err.error c.args.bytes.now c.in-Err.ensures.headers) c.broken_image.ensures refl refl
 
 pub returns-in-Err-read_meta : goal.returns-in-Err-read_meta
 returns-in-Err-read_meta g c =
-    finishes-broken c.in-Err-read_meta.error (assembly c.args.bytes.now) c.broken_image-in-Err-read_meta.result _ (metadata_refuses refusal c.in-Err-read_meta.error c.args.bytes.now _ c.in-Ok.ensures.headers c.in-Err-read_meta.ensures) c.broken_image-in-Err-read_meta.ensures refl refl
+    finishes-broken (refusal c.in-Err-read_meta.error) (assembly c.args.bytes.now) c.broken_image-in-Err-read_meta.result _ (metadata_refuses refusal c.in-Err-read_meta.error c.args.bytes.now _ c.in-Ok.ensures.headers c.in-Err-read_meta.ensures) c.broken_image-in-Err-read_meta.ensures refl refl
 
 pub returns-in_err-put_imports : goal.returns-in_err-put_imports
 returns-in_err-put_imports g c =
