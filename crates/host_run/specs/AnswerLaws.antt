@@ -16,7 +16,8 @@ pub record IsNoFailure (status : ℕ) : Type 0 where
 
 -- no answer to words and files has the status of a failure
 abbrev pub AnswersAreNoFailures : Type 0
-AnswersAreNoFailures = (words : List (List ℕ)) (files : Files) (a : Answer) → Answers words files a → IsNoFailure a.status
+AnswersAreNoFailures =
+    (words : List (List ℕ)) (files : Files) (a : Answer) → Answers words files a → IsNoFailure a.status
 
 abbrev pub IsNoDrill : Option Command → Type 0
 IsNoDrill None = Unit {0}
@@ -29,10 +30,12 @@ IsNoDrill (Some (Drill number)) = ⊥
 -- words that ask for no drill have one answer
 abbrev pub OtherAnswersAreOne : Type 0
 OtherAnswersAreOne =
-    (words : List (List ℕ)) (files : Files) (a b : Answer) → IsNoDrill (command words) → Answers words files a → Answers words files b → a ≡ b
+    (words : List (List ℕ)) (files : Files) (a b : Answer) → IsNoDrill (command words)
+    → Answers words files a → Answers words files b → a ≡ b
 
--- behind a file that refuses the call none is read
+-- after a file that refuses the call none is read
 abbrev pub ReadingEndsAtARefusal : Type 0
 ReadingEndsAtARefusal =
-    (earlier later : List Reading) (refusing : Reading) (files : Files) → refusing.accepts (files refusing.name) ≡ false
+    (earlier later : List Reading) (refusing : Reading) (files : Files)
+    → refusing.accepts (files refusing.name) ≡ false
     → names_of (earlier ++ refusing ∷ later) files ≡ names_of (earlier ++ refusing ∷ []) files

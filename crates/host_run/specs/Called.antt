@@ -21,7 +21,8 @@ pub record StoreChange : Type 0 where
   pub after : ℕ
 
 abbrev pub of_store : Option Files → Option Files → ℕ → ℕ → StoreChange
-of_store held held_after before after = record { held = held; held_after = held_after; before = before; after = after }
+of_store held held_after before after =
+    record { held = held; held_after = held_after; before = before; after = after }
 
 -- what a sink tells, and its count of failed writes
 pub record SinkChange : Type 0 where
@@ -61,7 +62,8 @@ Meets a (Err Memory) out = GetsFront out a.out
 -- a file that couldn't be read is one of these, and the store counted it
 abbrev pub IfUnreadable : List (List ℕ) → Result Settled Halt → StoreChange → Type 0
 IfUnreadable names (Ok settled) store = ⊤
-IfUnreadable names (Err (Unreadable name)) store = Contains names name × Rose store.before store.after
+IfUnreadable names (Err (Unreadable name)) store =
+    Contains names name × Rose store.before store.after
 IfUnreadable names (Err SinkFailed) store = ⊤
 IfUnreadable names (Err Memory) store = ⊤
 
@@ -94,7 +96,9 @@ pub record Finishes (a : Answer) (result : Result Settled Halt) (out : SinkChang
   pub count : out.before ≤ out.after
 
 -- a command, by its answers to files and the names that it reads among them
-pub record Obeys (IsOne : Files → Answer → Type 0) (names : Files → List (List ℕ)) (result : Result Settled Halt) (store : StoreChange) (out : SinkChange) : Type 0 where
+pub record Obeys
+    (IsOne : Files → Answer → Type 0) (names : Files → List (List ℕ)) (result : Result Settled Halt)
+    (store : StoreChange) (out : SinkChange) : Type 0 where
   pub files : Files
   pub told : Tells store.held files
   pub answer : Answer
@@ -114,16 +118,19 @@ abbrev pub IsPrinted : Halt → ℕ → SinkChange → Type 0
 IsPrinted halt status err =
     ((status ≡ halt_status halt) × Gets err (halt_line halt) × (err.after ≡ err.before))
     ⊎ (((status ≡ halt_status Memory) × Gets err memory_line × (err.after ≡ err.before))
-    ⊎ ((status ≡ halt_status SinkFailed) × Rose err.before err.after × (GetsFront err (halt_line halt) ⊎ GetsFront err memory_line)))
+    ⊎ ((status ≡ halt_status SinkFailed) × Rose err.before err.after
+    × (GetsFront err (halt_line halt) ⊎ GetsFront err memory_line)))
 
 -- What err got at the end, and the status: all texts, or the first put of them that failed is the last; a halt's line; nothing
 -- where a put to out has failed.
 abbrev pub Closes : Result Settled Halt → ℕ → SinkChange → Type 0
 Closes (Ok settled) status err =
     ((status ≡ settled.status) × Gets err (joined settled.texts) × (err.after ≡ err.before))
-    ⊎ ((status ≡ halt_status SinkFailed) × Rose err.before err.after × GetsFront err (joined settled.texts))
+    ⊎ ((status ≡ halt_status SinkFailed) × Rose err.before err.after
+    × GetsFront err (joined settled.texts))
 Closes (Err (Unreadable name)) status err = IsPrinted (Unreadable name) status err
-Closes (Err SinkFailed) status err = (status ≡ halt_status SinkFailed) × (err.new ≡ err.old) × (err.after ≡ err.before)
+Closes (Err SinkFailed) status err =
+    (status ≡ halt_status SinkFailed) × (err.new ≡ err.old) × (err.after ≡ err.before)
 Closes (Err Memory) status err = IsPrinted Memory status err
 
 -- ---- a whole call
@@ -135,7 +142,8 @@ pub record GivesAnswer (a : Answer) (status : ℕ) (out err : SinkChange) : Type
   pub is_err : Gets err a.err
 
 -- a file couldn't be read: the store counted it, out got nothing, and err the line that says so
-pub record CouldNotRead (names : List (List ℕ)) (store : StoreChange) (out err : SinkChange) : Type 0 where
+pub record CouldNotRead
+    (names : List (List ℕ)) (store : StoreChange) (out err : SinkChange) : Type 0 where
   pub name : List ℕ
   pub is_read : Contains names name
   pub rose : Rose store.before store.after
@@ -143,14 +151,16 @@ pub record CouldNotRead (names : List (List ℕ)) (store : StoreChange) (out err
   pub said : Gets err (unreadable_line name)
 
 -- err got a front of the line of a file that couldn't be read, where the store counted a failed read
-pub record SaysUnreadable (names : List (List ℕ)) (store : StoreChange) (err : SinkChange) : Type 0 where
+pub record SaysUnreadable
+    (names : List (List ℕ)) (store : StoreChange) (err : SinkChange) : Type 0 where
   pub name : List ℕ
   pub is_read : Contains names name
   pub rose : Rose store.before store.after
   pub said : GetsFront err (unreadable_line name)
 
 -- A put failed, of out or of err, and was counted: both got a front of what was due, and err nothing where its own puts didn't fail.
-pub record CouldNotPut (a : Answer) (names : List (List ℕ)) (store : StoreChange) (out err : SinkChange) : Type 0 where
+pub record CouldNotPut
+    (a : Answer) (names : List (List ℕ)) (store : StoreChange) (out err : SinkChange) : Type 0 where
   pub rose : Rose out.before out.after ⊎ Rose err.before err.after
   pub out_front : GetsFront out a.out
   pub err_quiet : (err.new ≡ err.old) ⊎ Rose err.before err.after
@@ -163,7 +173,8 @@ pub record HadNoMemory (a : Answer) (out err : SinkChange) : Type 0 where
 
 -- What a call came to, all of it said of the same files and of one of the answers to the words and them: those that the store
 -- tells, or some files of bytes where it tells none.
-pub record Called (words : List (List ℕ)) (status : ℕ) (store : StoreChange) (out err : SinkChange) : Type 0 where
+pub record Called
+    (words : List (List ℕ)) (status : ℕ) (store : StoreChange) (out err : SinkChange) : Type 0 where
   pub files : Files
   pub told : Tells store.held files
   pub answer : Answer

@@ -23,7 +23,8 @@ abbrev pub IsAnswer : Option Command → List (List ℕ) → Files → Answer �
 IsAnswer None words files a = a ≡ usage
 IsAnswer (Some (Imports file)) words files a = a ≡ imports_answer file (files file)
 IsAnswer (Some (Stubs file)) words files a = a ≡ usage
-IsAnswer (Some (Native lib symbol numbers)) words files a = a ≡ native_answer lib symbol numbers (files lib)
+IsAnswer (Some (Native lib symbol numbers)) words files a =
+    a ≡ native_answer lib symbol numbers (files lib)
 IsAnswer (Some (Run run)) words files a = a ≡ usage
 IsAnswer (Some (Drill number)) words files a = a ≡ usage
 

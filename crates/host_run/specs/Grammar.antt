@@ -24,7 +24,7 @@ names_file (first ∷ rest) = not (first == 45)
 unfoldable pub number : ℕ → ℕ → ℕ → List ℕ → Option ℕ
 number base most greatest digits =
     if nat_lt 0 (length digits) && nat_le (length digits) most
-      && list_all (λ d. is_digit d base) digits && nat_le (digits_value base digits) greatest
+    && list_all (λ d. is_digit d base) digits && nat_le (digits_value base digits) greatest
     then Some (digits_value base digits) else None
 
 -- what follows `start` in a word that begins with it
@@ -55,7 +55,8 @@ word_value word =
 -- the numbers of all the words; None where one is no number
 abbrev pub values : List (List ℕ) → Option (List ℕ)
 values [] = Some []
-values (word ∷ words) = option_and_then (λ value. option_map (λ others. value ∷ others) (values words)) (word_value word)
+values (word ∷ words) =
+    option_and_then (λ value. option_map (λ others. value ∷ others) (values words)) (word_value word)
 
 abbrev pub native : List (List ℕ) → Option Command
 native (lib ∷ symbol ∷ arguments) =
@@ -67,17 +68,21 @@ native _ = None
 
 -- before the first word
 abbrev pub no_words : Options
-no_words = record { file = None; libs = []; fuel = None; report = false; log = false; awaits = Nothing }
+no_words =
+    record { file = None; libs = []; fuel = None; report = false; log = false; awaits = Nothing }
 
 -- `--lib` may come again, and its order is kept
 unfoldable pub with_lib : Options → List ℕ → Option Options
-with_lib said lib = if nat_lt 0 (length lib) then Some (record said { libs = said.libs ++ lib ∷ []; awaits = Nothing }) else None
+with_lib said lib =
+    if nat_lt 0 (length lib)
+    then Some (record said { libs = said.libs ++ lib ∷ []; awaits = Nothing }) else None
 
 -- `--fuel` comes once, with a number of at most 100,000,000 in decimal digits
 unfoldable pub with_fuel : Options → List ℕ → Option Options
 with_fuel said digits =
     if is_none said.fuel
-    then option_map (λ fuel. record said { fuel = Some fuel; awaits = Nothing }) (number 10 20 100000000 digits) else None
+    then option_map (λ fuel. record said { fuel = Some fuel; awaits = Nothing })
+    (number 10 20 100000000 digits) else None
 
 -- `--report` comes once
 unfoldable pub with_report : Options → Option Options
@@ -89,7 +94,9 @@ with_log said = if said.log then None else Some (record said { log = true })
 
 -- FILE comes once
 unfoldable pub with_file : Options → List ℕ → Option Options
-with_file said file = if is_none said.file && names_file file then Some (record said { file = Some file }) else None
+with_file said file =
+    if is_none said.file && names_file file
+    then Some (record said { file = Some file }) else None
 
 -- a word of which no option before it is in want
 unfoldable pub with_option : Options → List ℕ → Option Options
@@ -124,7 +131,17 @@ said_by said (word ∷ words) = option_and_then (λ next. said_by next words) (w
 unfoldable pub said_whole : ℕ → Options → Option Command
 said_whole before said =
     elim said.awaits [
-      | Nothing ↦ option_map (λ file. Run (record { file = file; libs = said.libs; fuel = unwrap_or said.fuel 10000000; report = said.report; log = said.log; before = before })) said.file
+      | Nothing ↦
+          option_map
+          (λ file. Run (record {
+            file = file;
+            libs = said.libs;
+            fuel = unwrap_or said.fuel 10000000;
+            report = said.report;
+            log = said.log;
+            before = before;
+          }))
+          said.file
       | Lib ↦ None
       | Fuel ↦ None
     ]
@@ -141,7 +158,8 @@ fits_program words = nat_le (length words) 65536 && nat_le (sum_by length words)
 unfoldable pub run : List (List ℕ) → Option Command
 run words =
     if fits_program (after_first is_end words)
-    then option_and_then (said_whole (1 + min (position_or_len is_end words + 1) (length words))) (said_by no_words (before_first is_end words))
+    then option_and_then (said_whole (1 + min (position_or_len is_end words + 1) (length words)))
+    (said_by no_words (before_first is_end words))
     else None
 
 -- ---- the line

@@ -14,7 +14,8 @@ IsFileName word = (0 < length word) × (slice_index word 0 ≢ 45)
 abbrev pub KeepsBounds : List (List ℕ) → Command → Type 0
 KeepsBounds words (Imports file) = IsFileName file
 KeepsBounds words (Stubs file) = IsFileName file
-KeepsBounds words (Native lib symbol numbers) = IsFileName lib × (0 < length symbol) × (length numbers ≤ 8)
+KeepsBounds words (Native lib symbol numbers) =
+    IsFileName lib × (0 < length symbol) × (length numbers ≤ 8)
 KeepsBounds words (Run run) =
     IsFileName run.file × (run.fuel ≤ 100000000) × (fits_program (drop run.before words) ≡ true)
 KeepsBounds words (Drill number) = number < 2 ^ 32
@@ -26,5 +27,7 @@ CommandsKeepBounds = (words : List (List ℕ)) → IfSome (command words) (Keeps
 -- what stands after the first `--` is the program's alone: other words there, within the bounds, leave the command as it is
 abbrev pub ProgramWordsAreFree : Type 0
 ProgramWordsAreFree =
-    (own first second : List (List ℕ)) → list_all (λ word. not (is_end word)) own ≡ true → fits_program first ≡ true → fits_program second ≡ true
-    → command (codes "run" ∷ (own ++ codes "--" ∷ first)) ≡ command (codes "run" ∷ (own ++ codes "--" ∷ second))
+    (own first second : List (List ℕ)) → list_all (λ word. not (is_end word)) own ≡ true
+    → fits_program first ≡ true → fits_program second ≡ true
+    → command (codes "run" ∷ (own ++ codes "--" ∷ first))
+    ≡ command (codes "run" ∷ (own ++ codes "--" ∷ second))

@@ -44,10 +44,11 @@ alone (Ok x) = Ok x
 alone (Err broken) = Err (broken.1, broken.2)
 
 -- a library under a name and memory with it, by the file's bytes; or its first broken part
-unfoldable pub bound_alone : AddressSpace → List ℕ → List ℕ → Result (Bindings × AddressSpace) Broken
+unfoldable pub bound_alone :
+    AddressSpace → List ℕ → List ℕ → Result (Bindings × AddressSpace) Broken
 bound_alone space name bytes =
     file.library bytes >>= λ library.
-      alone (bindings (sources_from 0 (library ∷ []) (bytes ∷ []) (name ∷ [])) space)
+    alone (bindings (sources_from 0 (library ∷ []) (bytes ∷ []) (name ∷ [])) space)
 
 -- ---- the call
 
@@ -64,13 +65,17 @@ run_answer (Err ending) = ended ending
 abbrev pub call_answer : List ℕ → List ℕ → (Bindings × AddressSpace) → Option ℕ → Answer
 call_answer symbol numbers bound None = no_symbol symbol
 call_answer symbol numbers bound (Some at) =
-    run_answer (symbol_run first_lane standard.stack bound.0.inits at numbers native_fuel bound.1).answer
+    run_answer
+    (symbol_run first_lane standard.stack bound.0.inits at numbers native_fuel bound.1).answer
 
 -- the symbol is looked for in the only library, number 0; a broken one is named as the line has it
-abbrev pub bound_answer : List ℕ → List ℕ → List ℕ → Result (Bindings × AddressSpace) Broken → Answer
-bound_answer lib symbol numbers (Ok bound) = call_answer symbol numbers bound (symbol_in bound.0.modules 0 symbol)
+abbrev pub bound_answer :
+    List ℕ → List ℕ → List ℕ → Result (Bindings × AddressSpace) Broken → Answer
+bound_answer lib symbol numbers (Ok bound) =
+    call_answer symbol numbers bound (symbol_in bound.0.modules 0 symbol)
 bound_answer lib symbol numbers (Err broken) = bad_library lib broken.0 broken.1
 
 -- `native` of a library by its file's bytes, which is bound under the name that stands after the last `/`
 abbrev pub native_of : List ℕ → List ℕ → List ℕ → List ℕ → Answer
-native_of lib symbol numbers bytes = bound_answer lib symbol numbers (bound_alone start_space (file_name lib) bytes)
+native_of lib symbol numbers bytes =
+    bound_answer lib symbol numbers (bound_alone start_space (file_name lib) bytes)

@@ -34,7 +34,8 @@ readings (Some (Drill number)) words = []
 -- the names that are read, up to the first file that refuses the call
 abbrev pub names_of : List Reading → Files → List (List ℕ)
 names_of [] files = []
-names_of (reading ∷ rest) files = reading.name ∷ (if reading.accepts (files reading.name) then names_of rest files else [])
+names_of (reading ∷ rest) files =
+    reading.name ∷ (if reading.accepts (files reading.name) then names_of rest files else [])
 
 -- the names that a call with these words reads among these files
 abbrev pub names_read : List (List ℕ) → Files → List (List ℕ)

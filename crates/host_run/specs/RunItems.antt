@@ -71,7 +71,8 @@ first_or (x ∷ xs) d = x
 -- `--log` at most once; LIB as often as one likes, and their order is kept.
 abbrev pub command_of : List Item → ℕ → Option Command
 command_of items before =
-    if length (flat_map file_of items) == 1 && nat_le (length (flat_map fuel_of items)) 1 && nat_le (length (flat_map report_of items)) 1 && nat_le (length (flat_map log_of items)) 1
+    if length (flat_map file_of items) == 1 && nat_le (length (flat_map fuel_of items)) 1
+    && nat_le (length (flat_map report_of items)) 1 && nat_le (length (flat_map log_of items)) 1
     then Some (Run (record {
       file = first_or (flat_map file_of items) [];
       libs = flat_map lib_of items;
@@ -82,7 +83,7 @@ command_of items before =
     }))
     else None
 
--- the words behind the items: none, or `--` and the program's own
+-- the words after the items: none, or `--` and the program's own
 abbrev pub ended_by : Option (List (List ℕ)) → List (List ℕ)
 ended_by None = []
 ended_by (Some program) = codes "--" ∷ program
@@ -99,10 +100,12 @@ own_words items (Some program) = 2 + length (flat_map spelled items)
 -- a line of items, in whatever order, asks for the command of the items
 abbrev pub RunLinesSayTheirItems : Type 0
 RunLinesSayTheirItems =
-    (items : List Item) (program : Option (List (List ℕ))) → All MayStand items → ProgramFits program
-    → command (codes "run" ∷ (flat_map spelled items ++ ended_by program)) ≡ command_of items (own_words items program)
+    (items : List Item) (program : Option (List (List ℕ)))
+    → All MayStand items → ProgramFits program
+    → command (codes "run" ∷ (flat_map spelled items ++ ended_by program))
+    ≡ command_of items (own_words items program)
 
--- the words behind `run` are those of items
+-- the words after `run` are those of items
 pub record AreItems (words : List (List ℕ)) : Type 0 where
   pub items : List Item
   pub program : Option (List (List ℕ))
@@ -112,4 +115,6 @@ pub record AreItems (words : List (List ℕ)) : Type 0 where
 
 -- and each line of `run` that asks for a command is one of items
 abbrev pub RunLinesAreItems : Type 0
-RunLinesAreItems = (words : List (List ℕ)) (asked : Command) → command (codes "run" ∷ words) ≡ Some asked → AreItems words
+RunLinesAreItems =
+    (words : List (List ℕ)) (asked : Command) → command (codes "run" ∷ words) ≡ Some asked
+    → AreItems words

@@ -28,12 +28,14 @@ too_large_line name = line_on (codes "plhost: too large: ") name
 -- a broken part of an image, by its place in the reading order, and the file offset
 unfoldable pub bad_image_line : ℕ → ℕ → List ℕ
 bad_image_line part at =
-    codes "plhost: bad image: " ++ slice_index_or image.part_names part [] ++ codes " at " ++ decimal at ++ 10 ∷ []
+    codes "plhost: bad image: " ++ slice_index_or image.part_names part []
+    ++ codes " at " ++ decimal at ++ 10 ∷ []
 
 -- a broken part of a library, by the library's name, the part's place in the reading order, and the file offset
 unfoldable pub bad_library_line : List ℕ → ℕ → ℕ → List ℕ
 bad_library_line name part at =
-    codes "plhost: bad library " ++ escaped name ++ codes ": " ++ slice_index_or library.part_names part [] ++ codes " at " ++ decimal at ++ 10 ∷ []
+    codes "plhost: bad library " ++ escaped name ++ codes ": "
+    ++ slice_index_or library.part_names part [] ++ codes " at " ++ decimal at ++ 10 ∷ []
 
 unfoldable pub no_symbol_line : List ℕ → List ℕ
 no_symbol_line name = line_on (codes "plhost: no symbol: ") name
@@ -41,7 +43,7 @@ no_symbol_line name = line_on (codes "plhost: no symbol: ") name
 unfoldable pub fuel_line : List ℕ
 fuel_line = line (codes "plhost: fuel spent")
 
--- the hexadecimal digits of a number of 64 bits in lower case, behind as many zeros as make sixteen
+-- the hexadecimal digits of a number of 64 bits in lower case, after as many zeros as make sixteen
 unfoldable pub sixteen_digits : ℕ → List ℕ
 sixteen_digits n = replicate (16 - length (digits 16 false n)) 48 ++ digits 16 false n
 

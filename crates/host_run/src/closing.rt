@@ -30,7 +30,8 @@ pub fn close<E: Sink>(alloc: Global, ending: Result<Settled, Halt>, err: &mut E)
 
 /// Puts texts in order, and none after one whose put failed.
 fn put_texts<E: Sink>(texts: &[Bytes], err: &mut E) -> Result<(), SinkFault>
-    ensures ok { OnOk result (E.contents err.new ≡ appended (E.contents err.old) (joined texts.now)) }
+    ensures ok { OnOk result
+        (E.contents err.new ≡ appended (E.contents err.old) (joined texts.now)) }
     ensures err { OnErr result
         (AppendsFront (E.contents err.old) (E.contents err.new) (joined texts.now)) }
     ensures failed { OnErr result (Rose (E.faults err.old) (E.faults err.new)) }

@@ -52,7 +52,8 @@ impl From<StoreFault> for FileError {
 /// All bytes of a file, read in pieces. Of a file that is too large no piece is read after the one that shows it.
 pub fn read_file<S: Store>(alloc: Global, name: &str, store: &mut S) -> Result<Bytes, FileError>
     ensures whole { IsWhole (contents_under (S.held store.old) name.now) result }
-    ensures failed { IsErrOf result FileError.Failed → Rose (S.faults store.old) (S.faults store.new) }
+    ensures failed { IsErrOf result FileError.Failed →
+        Rose (S.faults store.old) (S.faults store.new) }
     ensures uncounted { CountsFile result (S.faults store.old) (S.faults store.new) }
     ensures count { S.faults store.old ≤ S.faults store.new }
     ensures small { IfOk result (λ bytes. length bytes ≤ file_limit) }

@@ -13,17 +13,14 @@ use crate::refusals::broken_image;
 use crate::settled::{Halt, Settled};
 use bound_base::{PutError, Sink, escape};
 use meta_tables::{
-    IMPL_MAP, IMPL_MAP_IMPORT_NAME, IMPL_MAP_IMPORT_SCOPE, MODULE_REF, MODULE_REF_NAME, Meta, read_meta,
+    IMPL_MAP, IMPL_MAP_IMPORT_NAME, IMPL_MAP_IMPORT_SCOPE, MODULE_REF, MODULE_REF_NAME, Meta,
+    read_meta,
 };
 use pe_reader::read_pe;
 use std::alloc::Global;
 
 /// Puts the imports of an assembly, or settles the call by its first broken part.
-pub fn put_imports_of<O: Sink>(
-    alloc: Global,
-    bytes: &[u8],
-    out: &mut O,
-) -> Result<Settled, Halt>
+pub fn put_imports_of<O: Sink>(alloc: Global, bytes: &[u8], out: &mut O) -> Result<Settled, Halt>
     ensures { Finishes (imports_of (assembly bytes.now)) result
         (of_sink (O.contents out.old) (O.contents out.new) (O.faults out.old) (O.faults out.new)) }
 {
@@ -63,17 +60,24 @@ fn put_import<O: Sink>(
     row: &[u32; 9],
     out: &mut O,
 ) -> Result<(), PutError>
-    ensures puts { Puts (import_line meta.now row.now) result (O.contents out.old) (O.contents out.new) }
+    ensures puts { Puts (import_line meta.now row.now) result
+        (O.contents out.old) (O.contents out.new) }
     ensures counted { CountsPut result (O.faults out.old) (O.faults out.new) }
     ensures count { O.faults out.old ≤ O.faults out.new }
 {
-    put_name(alloc, module_name(meta, row[IMPL_MAP_IMPORT_SCOPE]), b' ', out)?;
+    put_name(
+        alloc,
+        module_name(meta, row[IMPL_MAP_IMPORT_SCOPE]),
+        b' ',
+        out,
+    )?;
     put_name(alloc, name_in(meta, row[IMPL_MAP_IMPORT_NAME]), b'\n', out)
 }
 
 /// Puts a name as it is printed, and a byte after it.
 fn put_name<O: Sink>(alloc: Global, name: &[u8], end: u8, out: &mut O) -> Result<(), PutError>
-    ensures puts { Puts (escaped name.now ++ end ∷ []) result (O.contents out.old) (O.contents out.new) }
+    ensures puts { Puts (escaped name.now ++ end ∷ []) result
+        (O.contents out.old) (O.contents out.new) }
     ensures counted { CountsPut result (O.faults out.old) (O.faults out.new) }
     ensures count { O.faults out.old ≤ O.faults out.new }
 {

@@ -92,7 +92,7 @@ fn call<O: Sink>(
     requires { length numbers.now ≤ 8 }
     ensures { Finishes
         (run_answer (symbol_run first_lane standard.stack bound.now.inits at numbers.now native_fuel
-            memory.old.space).answer) result
+        memory.old.space).answer) result
         (of_sink (O.contents out.old) (O.contents out.new) (O.faults out.old) (O.faults out.new)) }
 {
     match run_symbol(alloc, bound, memory, at, numbers, FUEL) {
