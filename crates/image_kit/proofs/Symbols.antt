@@ -15,7 +15,7 @@ use Rattle.byte_view.specs.ElfSymbols.{Symbol, table_place, hash_count, name_at,
 use Rattle.byte_view.proofs.Reading.{bind_read, listed_from}
 use Rattle.image_kit.specs.declared.library_plan.NamedPlace.{NamedPlace}
 use Rattle.image_kit.specs.LibraryFile.{u16, u32, u64, symbol_entry, symbol_entries, symbol_table, text, string_table, hash_table}
-use Rattle.image_kit.specs.LibraryReads.{no_symbol, symbol_of}
+use Rattle.image_kit.specs.LibraryReads.{no_symbol, planned_symbol}
 use Rattle.image_kit.proofs.Stands.{Stands, stands_front, stands_back, stands_within, le_inside, le_u32, length-u32, range_to_end, text_reads}
 use Rattle.image_kit.proofs.Head.{one_load, written_entries}
 
@@ -95,7 +95,7 @@ symbol_numbers bytes at name value s n v =
     }
 
 -- an entry with its name
-symbol_reads : (bytes : List ℕ) (strings at name code : ℕ) (place : NamedPlace) → Stands bytes at (symbol_entry name ((code + place.offset) % 2 ^ 64)) → Stands bytes (strings + name) (text place) → name < 2 ^ 32 → strings + name + 1 ≤ length bytes → ¬ Contains place.name 0 → symbol_at bytes (one_load (length bytes) ∷ []) strings at ≡ Ok (symbol_of code place)
+symbol_reads : (bytes : List ℕ) (strings at name code : ℕ) (place : NamedPlace) → Stands bytes at (symbol_entry name ((code + place.offset) % 2 ^ 64)) → Stands bytes (strings + name) (text place) → name < 2 ^ 32 → strings + name + 1 ≤ length bytes → ¬ Contains place.name 0 → symbol_at bytes (one_load (length bytes) ∷ []) strings at ≡ Ok (planned_symbol code place)
 unfolding symbol_at
 symbol_reads bytes strings at name code place s t small within free =
     let n = symbol_numbers bytes at name ((code + place.offset) % 2 ^ 64) s small (omega arith) in
@@ -151,7 +151,7 @@ entries_stand bytes strings code at name (place ∷ more) s t (suc k) place_at d
 
 -- the symbols of a table, its names, and number 0
 abbrev pub written_symbols : ℕ → List NamedPlace → List Symbol
-written_symbols code names = no_symbol ∷ map (symbol_of code) names
+written_symbols code names = no_symbol ∷ map (planned_symbol code) names
 
 -- what is known of the tables of a file
 pub record SymbolsStand (bytes : List ℕ) (strings code : ℕ) (names : List NamedPlace) : Type 0 where
@@ -178,12 +178,12 @@ symbol_reads_at bytes strings code names s (suc k) h =
     let within : strings + there.name + length (text place) ≤ length bytes = stands_within bytes (strings + there.name) (text place) there.text_is (omega arith) in
     let small = s.small in
     symbol_reads bytes strings (384 + 24 * suc k) there.name code place there.entry there.text_is (omega arith) (omega arith) (s.free k no_place (omega arith))
-    ∙ ap Ok (sym (get_or-map (symbol_of code) names k no_place no_symbol (omega arith)))
+    ∙ ap Ok (sym (get_or-map (planned_symbol code) names k no_place no_symbol (omega arith)))
 
 symbols_listed : (bytes : List ℕ) (strings code : ℕ) (names : List NamedPlace) → SymbolsStand bytes strings code names → listed (λ k. symbol_at bytes (one_load (length bytes) ∷ []) strings (384 + 24 * k)) (length names + 1) ≡ Ok (written_symbols code names)
 symbols_listed bytes strings code names s =
     let all : List Symbol = written_symbols code names in
-    let count : length all ≡ length names + 1 = ap suc (length-map names (symbol_of code)) ∙ (omega arith) in
+    let count : length all ≡ length names + 1 = ap suc (length-map names (planned_symbol code)) ∙ (omega arith) in
     listed_from (λ k. symbol_at bytes (one_load (length bytes) ∷ []) strings (384 + 24 * k)) (λ k. get_or all k no_symbol) (length names + 1) (symbol_reads_at bytes strings code names s)
     ∙ ap Ok (sym (fill_by_all (λ k. get_or all k no_symbol) all (length names + 1) no_symbol count (λ k _. refl)))
 

@@ -31,11 +31,11 @@ const PF_R: u32 = 4;
 
 const PAGE: u64 = 4096;
 
-const DYNAMIC_PLACE: u64 = 176;
+const DYNAMIC_OFFSET: u64 = 176;
 
 const DYNAMIC_SIZE: u64 = 208;
 
-const SYMBOLS_PLACE: u64 = 384;
+const SYMBOLS_OFFSET: u64 = 384;
 
 const SYMBOL_SIZE: u64 = 24;
 
@@ -52,7 +52,7 @@ const DT_SYMENT: u64 = 11;
 /// DT_NULL, and 7 spare entries.
 const NO_ENTRIES: [u8; 128] = [0; 128];
 
-/// A shared library for RISC-V without flags, with two program headers behind this one and no section headers.
+/// A shared library for RISC-V without flags, with two program headers after this one and no section headers.
 #[tactic(auto, unfolding(crate::specs::LibraryFile::ident, crate::specs::LibraryFile::elf_header))]
 pub(crate) fn put_elf_header(out: &mut Bytes) -> Result<(), AllocError>
     ensures { OnOk result (out.new ≡ out.old ++ elf_header) }
@@ -93,7 +93,7 @@ pub(crate) fn put_program_headers(out: &mut Bytes, size: u64) -> Result<(), Allo
     ensures { OnOk result (out.new ≡ out.old ++ program_header_table size) }
 {
     put_program_header(out, PT_LOAD, PF_R + PF_X, 0, size, PAGE)?;
-    put_program_header(out, PT_DYNAMIC, PF_R, DYNAMIC_PLACE, DYNAMIC_SIZE, 8)
+    put_program_header(out, PT_DYNAMIC, PF_R, DYNAMIC_OFFSET, DYNAMIC_SIZE, 8)
 }
 
 /// What stands at one place in the file and in memory, as large in both.
@@ -130,7 +130,7 @@ pub(crate) fn put_dynamic_section(
 {
     put_entry(out, DT_HASH, hash)?;
     put_entry(out, DT_STRTAB, strings)?;
-    put_entry(out, DT_SYMTAB, SYMBOLS_PLACE)?;
+    put_entry(out, DT_SYMTAB, SYMBOLS_OFFSET)?;
     put_entry(out, DT_STRSZ, strings_size)?;
     put_entry(out, DT_SYMENT, SYMBOL_SIZE)?;
     out.extend_from_slice(&NO_ENTRIES)

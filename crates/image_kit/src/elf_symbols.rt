@@ -66,7 +66,7 @@ pub(crate) fn put_hash_table(out: &mut Bytes, names: u32) -> Result<(), AllocErr
     Ok(())
 }
 
-/// The empty string, and each name with a zero behind it.
+/// The empty string, and each name with a zero after it.
 #[tactic(auto, unfolding(crate::specs::LibraryFile::string_table))]
 pub(crate) fn put_string_table(out: &mut Bytes, names: &[NamedPlace]) -> Result<(), AllocError>
     ensures { OnOk result (out.new ≡ out.old ++ string_table names.now) }

@@ -10,6 +10,3 @@ mod put;
 
 pub use library_file::library;
 pub use library_plan::{LibraryPlan, NamedPlace};
-
-#[cfg(test)]
-mod tests;

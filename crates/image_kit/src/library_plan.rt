@@ -2,11 +2,11 @@
 
 ghost use Rattle.std.specs.Prelude.{◌≡◌, ◌-◌, ◌^◌, ◌↔◌, min, length, IsTrue, IsSome, All, Contains};
 ghost use Rattle.rv_decode.specs.Encoding.{encoding};
-ghost use Rattle.image_kit.specs.LibraryFile.{string_table, file_end};
+ghost use Rattle.image_kit.specs.LibraryFile.{code_size as size_of_code, string_table, file_end};
 ghost use Rattle.image_kit.specs.LibraryReads.{Fits};
 
 use bound_base::{Bytes, Items};
-use rv_decode::{Instr, encode};
+use rv_decode::{Instr, encode, length_of};
 
 /// A name of a place in a library's code.
 #[derive(Debug, Drop)]
@@ -17,7 +17,7 @@ pub struct NamedPlace {
     pub offset: u64,
 }
 
-/// Code with names, and bytes behind it, of which a library file is made.
+/// Code with names, and bytes after it, of which a library file is made.
 ///
 /// A plan fits where each instruction encodes, no name holds a zero byte, and the file has at most 67,108,864 bytes.
 #[derive(Debug, Drop)]
@@ -26,7 +26,7 @@ pub struct LibraryPlan {
     pub code: Items<Instr>,
     /// Names of functions in the code, each a global symbol.
     pub names: Items<NamedPlace>,
-    /// What stands directly behind the code.
+    /// What follows the code directly.
     pub bytes: Bytes,
 }
 
@@ -52,11 +52,10 @@ impl LibraryPlan {
         ensures { result ≡ min (file_end self.now) (2 ^ 64 - 1) }
     {
         let names = self.names.len() as u64;
-        let code = self.code.len() as u64;
         names
             .saturating_mul(28)
             .saturating_add(424)
-            .saturating_add(code.saturating_mul(4))
+            .saturating_add(code_size(self.code.as_slice()))
             .saturating_add(self.bytes.len() as u64)
             .saturating_add(strings_size(self.names.as_slice()))
     }
@@ -85,7 +84,18 @@ fn has_zero(name: &[u8]) -> bool
     name.contains(&0)
 }
 
-/// The size of the names, each with a zero behind it, and of the empty string before them; 2^64 - 1 where it is larger.
+/// How many bytes the instructions take; 2^64 - 1 where it is more.
+pub(crate) fn code_size(code: &[Instr]) -> u64
+    ensures { result ≡ min (size_of_code code.now) (2 ^ 64 - 1) }
+{
+    let mut size: u64 = 0;
+    for instr in code {
+        size = size.saturating_add(length_of(encode(instr).unwrap_or(0)));
+    }
+    size
+}
+
+/// The size of the names, each with a zero after it, and of the empty string before them; 2^64 - 1 where it is larger.
 #[tactic(auto, unfolding(crate::specs::LibraryFile::string_table))]
 pub(crate) fn strings_size(names: &[NamedPlace]) -> u64
     ensures { result ≡ min (length (string_table names.now)) (2 ^ 64 - 1) }
