@@ -1,5 +1,5 @@
 -- What relocations leave as it was: all bytes outside of the writable loads of their library.
-use Rattle.std.proofs.Common.{◌≡◌, ℕ, suc, ◌+◌, ◌-◌, ◌<◌, ◌≤◌, Bool, true, false, ◌&&◌, ◌||◌, List, [], ◌∷◌, length, Option, Some, None, Ok, refl, ap, ◌∙◌, subst, arith}
+use Rattle.std.proofs.Common.{◌≡◌, ℕ, suc, ◌+◌, ◌-◌, ◌<◌, ◌≤◌, Bool, true, false, ◌&&◌, ◌||◌, List, [], ◌∷◌, length, Some, Ok, refl, ◌∙◌, subst, arith}
 use Rattle.std.specs.Prelude.{nat_le, nat_lt, if◌then◌else◌, slice_get, Contains}
 use Rattle.std.specs.List.{list_any}
 use Rattle.std.specs.Option.{ok_or}
@@ -18,7 +18,6 @@ use Rattle.native_memory.proofs.WrittenBytes.{written_bytes}
 use Rattle.elf_binder.specs.declared.relocation.Kind.{Kind}
 use Rattle.elf_binder.specs.declared.relocation.Kind.TheVariants.{Nothing, Absolute32, Absolute64, Relative, JumpSlot}
 use Rattle.byte_view.specs.Reading.{must}
-use Rattle.elf_binder.specs.Unbound.{Unbound}
 use Rattle.elf_binder.specs.Modules.{Module}
 use Rattle.elf_binder.specs.Loading.{Source}
 use Rattle.elf_binder.specs.Relocating.{kind_of, width_of, is_target, is_writable, value_for, bytes_for, write_relocation, relocate_as, relocate, relocate_library}

@@ -1,5 +1,5 @@
 -- What each step keeps is kept by all of them.
-use Rattle.std.proofs.Common.{◌≡◌, List, [], ◌∷◌, Result, Ok, Err, refl, subst}
+use Rattle.std.proofs.Common.{◌≡◌, List, [], ◌∷◌, Result, Ok, subst}
 use Rattle.byte_view.specs.Reading.{steps}
 use Rattle.byte_view.proofs.Reading.{bind_then, same_read}
 use Rattle.elf_binder.proofs.InFile.{Each}

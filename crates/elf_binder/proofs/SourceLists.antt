@@ -1,12 +1,11 @@
 -- The list of the libraries that are bound.
-use Rattle.std.proofs.Common.{◌≡◌, ℕ, zero, suc, ◌+◌, ◌<◌, List, [], ◌∷◌, length, get_or, map, Some, Ok, All, refl, ap, ◌∙◌, subst, arith}
+use Rattle.std.proofs.Common.{◌≡◌, ℕ, zero, suc, ◌+◌, List, [], ◌∷◌, length, map, Some, Ok, All, refl, ap, ◌∙◌, subst, arith}
 use Rattle.std.specs.Prelude.{slice_get}
 use Rattle.std.proofs.lemmas.List.{length-map}
 use Rattle.std.proofs.lemmas.Option.{slice_get_within, get_or_from_slice_get}
 use Rattle.byte_view.specs.Library.{Library, library}
 use Rattle.elf_reader.specs.declared.elf.Elf.{Elf}
 use Rattle.elf_reader.specs.Elf.{library_of}
-use Rattle.elf_binder.specs.Loading.{Source}
 use Rattle.elf_binder.specs.Binding.{sources_from}
 use Rattle.elf_binder.specs.Refusals.{AreRead}
 use Rattle.elf_binder.specs.Sources.{IsRead}

@@ -1,6 +1,6 @@
 -- Libraries in memory: what each defines, how a name is looked for among them, and how a library
 -- is found by its name.
-use Rattle.std.specs.Prelude.{ℕ, ◌+◌, ◌*◌, ◌%◌, ◌^◌, Bool, ◌&&◌, ◌||◌, not, ◌==◌, List, [], ◌∷◌, ◌++◌, length, map, filter, find, position, codes, bytes_eq, slice_get, Option, Some, None, option_map, option_and_then, if◌then◌else◌}
+use Rattle.std.specs.Prelude.{ℕ, ◌+◌, ◌%◌, ◌^◌, Bool, ◌&&◌, ◌||◌, not, ◌==◌, List, [], ◌∷◌, ◌++◌, length, map, filter, find, position, codes, bytes_eq, slice_get, Option, Some, None, option_map, option_and_then, if◌then◌else◌}
 use Rattle.std.specs.List.{list_any}
 use Rattle.byte_view.specs.ElfSymbols.{Symbol}
 use Rattle.host_functions.specs.HostFunctions.{place_named}
