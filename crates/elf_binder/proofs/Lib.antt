@@ -19,3 +19,4 @@ pub mod KeptBySteps
 pub mod Standing
 pub mod Inside
 pub mod OlderBytes
+pub mod Begun

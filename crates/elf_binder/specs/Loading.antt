@@ -57,3 +57,12 @@ place_library before source =
 
 unfoldable pub place_all : AddressSpace → List Source → Result Placed Unbound
 place_all space sources = steps place_library (record { bases = []; space = space }) sources
+
+-- the first load of a library that stands at a base, placed
+abbrev pub first_of : Source → ℕ → AddressSpace → Result AddressSpace Unbound
+first_of source base space = steps (place_load source base) space (take 1 source.library.loads)
+
+-- the first load of the first library, placed
+abbrev pub first_load : AddressSpace → List Source → Result AddressSpace Unbound
+first_load space [] = Ok space
+first_load space (source ∷ more) = first_of source (base_for space) space

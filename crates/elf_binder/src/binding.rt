@@ -1,9 +1,10 @@
 //! Binds libraries: all are placed, then all relocated, then their initializers are listed (System V gABI, 'Program Loading and
 //! Dynamic Linking').
 
-ghost use Rattle.std.specs.Prelude.{◌≡◌, ◌≤◌, ◌^◌, [], length, map, zip, All, IfOk};
+ghost use Rattle.std.specs.Prelude.{◌≡◌, ◌≤◌, ◌^◌, [], length, map, zip, All, IfOk, IfErr, IsOk};
 ghost use Rattle.byte_view.specs.Reading.{Reads, steps};
 ghost use Rattle.elf_reader.specs.Elf.{library_of};
+ghost use Rattle.elf_binder.specs.Loading.{first_load};
 ghost use Rattle.elf_binder.specs.Relocating.{relocate_library};
 ghost use Rattle.elf_binder.specs.Binding.{sources_from, module_of, and_initializers, bindings};
 ghost use Rattle.elf_binder.specs.Refusals.{AreRead, refusal};
@@ -25,7 +26,7 @@ use std::alloc::Global;
 ///
 /// The refusal is that of the first library for which there is no room, else that of the first relocation that can't be
 /// applied, else that of the first array of initializers that can't be read. After a refusal the memory isn't what any
-/// library expects.
+/// library expects. `Memory` never comes where there is no room for the first load.
 pub fn bind(
     alloc: Global,
     elfs: &[Elf],
@@ -37,8 +38,11 @@ pub fn bind(
     requires names { length names.now ≡ length elfs.now }
     requires few { length elfs.now ≤ 16 }
     requires read { AreRead elfs.now files.now }
-    ensures { Reads refusal (λ bound. (bound, memory.new.space)) result
+    ensures bound { Reads refusal (λ bound. (bound, memory.new.space)) result
         (bindings (sources_from 0 (map library_of elfs.now) files.now names.now) memory.old.space) }
+    ensures memory { IfErr result (λ bad. bad ≡ BindBad.Memory
+        → IsOk (first_load memory.old.space
+        (sources_from 0 (map library_of elfs.now) files.now names.now))) }
 {
     bind_all(alloc, &Sources::joined(elfs, files, names), memory)
 }
@@ -46,8 +50,10 @@ pub fn bind(
 /// Binds libraries that were read.
 fn bind_all(alloc: Global, sources: &Sources<'_>, memory: &mut Memory) -> Result<Bound, BindBad>
     requires { All IsRead sources.now }
-    ensures { Reads refusal (λ bound. (bound, memory.new.space)) result
+    ensures bound { Reads refusal (λ bound. (bound, memory.new.space)) result
         (bindings sources.now memory.old.space) }
+    ensures memory { IfErr result (λ bad. bad ≡ BindBad.Memory
+        → IsOk (first_load memory.old.space sources.now)) }
 {
     let bases = place_all(alloc, sources, memory)?;
     let bases = bases.as_slice();

@@ -36,8 +36,8 @@ impl Bound {
         Bound { modules, inits }
     }
 
-    /// The number of a library by a module's name, which is looked for as it is, with `.so` behind, with `lib` before and `.so`
-    /// behind, and with `lib` before. Where no library is found, `c`, `libc`, `libc.so` and `libc.so.6` name the built-in library
+    /// The number of a library by a module's name, which is looked for as it is, with `.so` after it, with `lib` before and `.so`
+    /// after it, and with `lib` before. Where no library is found, `c`, `libc`, `libc.so` and `libc.so.6` name the built-in library
     /// of the host functions, whose number is the count of libraries.
     #[tactic(auto, unfolding(crate::specs::Modules::library_named))]
     pub fn library(&self, name: &[u8]) -> Option<u32>

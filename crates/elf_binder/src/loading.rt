@@ -1,10 +1,10 @@
 //! Places libraries in memory (System V gABI, 'Program Loading').
 
-ghost use Rattle.std.specs.Prelude.{◌≡◌, ◌+◌, ◌<◌, ◌≤◌, ◌^◌, length, All, IfOk, IfErr, IsSome};
+ghost use Rattle.std.specs.Prelude.{◌≡◌, ◌+◌, ◌<◌, ◌≤◌, ◌^◌, length, All, IfOk, IfErr, IsOk, IsSome};
 ghost use Rattle.byte_view.specs.ElfLoads.{end_of};
 ghost use Rattle.byte_view.specs.Reading.{Reads};
 ghost use Rattle.elf_reader.specs.Elf.{load_of};
-ghost use Rattle.elf_binder.specs.Loading.{base_for, placing, place_load, place_loads, place_library, place_all};
+ghost use Rattle.elf_binder.specs.Loading.{base_for, placing, place_load, place_loads, place_library, place_all, first_of, first_load};
 ghost use Rattle.elf_binder.specs.Refusals.{refusal};
 ghost use Rattle.elf_binder.specs.Sources.{source_of, IsRead};
 
@@ -28,6 +28,8 @@ pub fn place_all(
         result (place_all memory.old.space sources.now) }
     ensures count { IfOk result (λ bases. length bases ≡ length sources.now) }
     ensures low { IfOk result (λ bases. All (λ base. base ≤ 2 ^ 46) bases) }
+    ensures memory { IfErr result (λ bad. bad ≡ BindBad.Memory
+        → IsOk (first_load memory.old.space sources.now)) }
 {
     let mut bases = Items::new(alloc);
     let count = sources.len();
@@ -49,6 +51,8 @@ fn place_library(
         result (place_library (record { bases = bases.old; space = memory.old.space })
         (source_of source.now)) }
     ensures count { IfOk result (λ _. length bases.new ≡ length bases.old + 1) }
+    ensures memory { IfErr result (λ bad. bad ≡ BindBad.Memory
+        → IsOk (first_of (source_of source.now) (base_for memory.old.space) memory.old.space)) }
     ensures low { All (λ base. base ≤ 2 ^ 46) bases.old
         → IfOk result (λ _. All (λ base. base ≤ 2 ^ 46) bases.new) }
 {
@@ -73,8 +77,10 @@ fn place_loads(source: &Source<'_>, base: u64, memory: &mut Memory) -> Result<()
     requires read { IsRead (source_of source.now) }
     requires low { base ≤ 2 ^ 46 }
     requires after { memory.old.space.edge ≤ base }
-    ensures { Reads refusal (λ _. memory.new.space) result
+    ensures placed { Reads refusal (λ _. memory.new.space) result
         (place_loads (source_of source.now) base memory.old.space) }
+    ensures memory { IfErr result (λ bad. bad ≡ BindBad.Memory
+        → IsOk (first_of (source_of source.now) base memory.old.space)) }
 {
     for load in source.elf.loads.as_slice() {
         place_load(source, base, load, memory)?;

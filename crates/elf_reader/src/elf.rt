@@ -13,7 +13,7 @@ pub struct Load {
     pub file_size: u64,
     /// Its address, from the base of the library.
     pub vaddr: u64,
-    /// Its size in memory, in bytes. Behind the bytes of the file stand zeros.
+    /// Its size in memory, in bytes. After the bytes of the file come zeros.
     pub size: u64,
     /// What its memory may be used for.
     pub rights: Rights,

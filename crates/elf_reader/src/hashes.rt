@@ -35,7 +35,7 @@ pub fn symbol_count(bytes: &[u8], loads: &[Load], table: &[Entry]) -> Result<u64
     }
 }
 
-/// The number of chains of a hash table, which stands behind the number of its buckets: one for each symbol.
+/// The number of chains of a hash table, which follows the number of its buckets: one for each symbol.
 #[tactic(auto, unfolding(byte_view::specs::ElfSymbols::hash_count))]
 fn hash_count(bytes: &[u8], loads: &[Load], entry: Entry) -> Result<u64, Broken>
     requires { AreSound (length bytes.now) loads.now }
@@ -83,7 +83,7 @@ fn last_chain(bytes: &[u8], at: usize, count: usize, first: u32) -> Option<u32>
     is_hashed.then_some(greatest)
 }
 
-/// The number behind the last symbol of the chain that begins with `symbol`. The chains lie `chains` past the value of
+/// The number after the last symbol of the chain that begins with `symbol`. The chains lie `chains` past the value of
 /// the entry, one word for each symbol from `first` on.
 #[tactic(auto, unfolding(byte_view::specs::ElfSymbols::behind_chain))]
 fn behind_chain(

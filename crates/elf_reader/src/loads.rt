@@ -60,7 +60,7 @@ impl Load {
     }
 }
 
-/// The loads among the program headers: each lies in the file, below 2^32 in memory, and behind the load before.
+/// The loads among the program headers: each lies in the file, below 2^32 in memory, and after the load before.
 pub fn read_loads(alloc: Global, bytes: &[u8], headers: Headers) -> Result<Loads, ElfBad>
     requires { 0 < headers.count → headers.start + 56 * headers.count ≤ length bytes.now }
     ensures loads { Reads refusal (map load_of) result

@@ -1,4 +1,4 @@
-//! The names of symbols. A name ends at the first zero behind its place; one pass over the file finds where.
+//! The names of symbols. A name ends at the first zero after its start; one pass over the file finds where.
 
 ghost use Rattle.std.specs.Prelude.{◌≡◌, ◌+◌, ◌<◌, ◌≤◌, ◌==◌, length, map, position, IfOk};
 ghost use Rattle.std.specs.Option.{option_copied};

@@ -4,6 +4,7 @@ use Rattle.byte_view.proofs.Refusals.{refuses_as}
 use Rattle.elf_binder.specs.Loading.{Placed, place_library, place_all}
 use Rattle.elf_binder.specs.Refusals.{refusal}
 use Rattle.elf_binder.specs.Sources.{source_of, IsRead}
+use Rattle.elf_binder.proofs.Begun.{begun_at, library_began}
 use Rattle.elf_binder.proofs.SourceLists.{all_at}
 use Rattle.elf_binder.proofs.StepByStep.{one_more, it_fails, all_done}
 use Rattle.elf_binder.proofs.loading.place_all.Goals as goal
@@ -22,6 +23,13 @@ returns-in_err-place_library-clause-placed c =
     (record { bases = c.loop-number.bases; space = c.loop-number.memory.space }) c.loop-number.number (source_of c.at-source.result) d
     c.loop-number.invariant.came c.at-source.ensures fails) c.in_err-place_library.ensures.placed)
 
+pub returns-in_err-place_library-clause-memory : goal.returns-in_err-place_library-clause-memory
+returns-in_err-place_library-clause-memory c =
+    let p = err_from_is_err_and c.from_residual.result c.from_residual.ensures.1 in
+    rw (p.1, p.2)
+    (λ m. begun_at c.args.memory.now.space c.loop-number.memory.space c.args.sources.now c.loop-number.number (source_of c.at-source.result)
+    c.loop-number.invariant.start c.loop-number.invariant.begun c.at-source.ensures (c.in_err-place_library.ensures.memory m))
+
 pub loop-number-preserved : goal.loop-number-preserved
 loop-number-preserved c =
     let first : Placed = record { bases = []; space = c.args.memory.now.space } in
@@ -30,6 +38,11 @@ loop-number-preserved c =
           c.loop-number.number (source_of c.at-source.result) (record { bases = c.place_library.new.bases; space = c.place_library.new.memory.space })
           c.loop-number.invariant.came c.at-source.ensures c.in_ok-place_library.ensures.placed;
       count = omega (arith, c.in_ok-place_library.ensures.count);
+      start = λ e. absurd (omega arith);
+      begun = λ h. begun_at c.args.memory.now.space c.loop-number.memory.space c.args.sources.now c.loop-number.number
+          (source_of c.at-source.result) c.loop-number.invariant.start c.loop-number.invariant.begun c.at-source.ensures
+          (library_began (record { bases = c.loop-number.bases; space = c.loop-number.memory.space }) (source_of c.at-source.result)
+          (record { bases = c.place_library.new.bases; space = c.place_library.new.memory.space }) c.in_ok-place_library.ensures.placed);
       low = c.in_ok-place_library.ensures.low c.loop-number.invariant.low;
     }
 
