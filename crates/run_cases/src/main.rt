@@ -1,5 +1,6 @@
-//! Reads cases, one a line of stdin, and prints each with what `host_bridge` or `native_code` answers. A line is a verb and its
-//! words, and a number is decimal, or hexadecimal after 0x. A line that has none of the verbs is printed as it is.
+//! Reads cases, one a line of stdin, and prints each with what `host_bridge` or `native_code`
+//! answers. A line is a verb and its words, and a number is decimal, or hexadecimal after 0x. A
+//! line that has none of the verbs is printed as it is.
 //!
 //! - `memory`: native memory anew, with the blocks that are placed first, and 1,024 bytes of zeros at 0x120000 that may be
 //!   read, written and executed.
@@ -48,7 +49,8 @@ fn main(rt: HostRuntime) -> anyhow::Result<()> {
     Ok(())
 }
 
-/// Prints what a call answers, and nothing where the verb is none. The memory stays from line to line.
+/// Prints what a call answers, and nothing where the verb is none. The memory stays from line to
+/// line.
 fn answer(
     rt: &(impl Print + AllocGlobal),
     memory: &mut Memory,

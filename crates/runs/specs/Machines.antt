@@ -1,7 +1,8 @@
 -- Machines, and what comes of a state in some events.
 use Rattle.std.specs.Prelude.{ℕ, zero, suc, List, [], ◌++◌}
 
--- What comes of a state in one event: the next one, with pieces of output and entries of a log; or the run ends.
+-- What comes of a state in one event: the next one, with pieces of output and entries of a log; or
+-- the run ends.
 pub data Next (S P L E : Type 0) : Type 0 where
   Goes : S → List P → List L → Next S P L E
   Stops : E → Next S P L E

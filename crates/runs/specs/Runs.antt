@@ -2,7 +2,8 @@
 use Rattle.std.specs.Prelude.{◌≡◌, ℕ, ◌+◌, List, ◌++◌}
 use Rattle.runs.specs.Machines.{Machine, Stops, Steps}
 
--- some events lead from one state to another, with this output and these entries; each takes one unit of fuel
+-- some events lead from one state to another, with this output and these entries; each takes one
+-- unit of fuel
 pub record Ran {S P L E : Type 0} (m : Machine S P L E) (old new : S) (output : List P) (log : List L)
     : Type 0 where
   pub n : ℕ
