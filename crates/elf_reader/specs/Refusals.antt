@@ -1,5 +1,5 @@
 -- The parts of a library by their places in the reading order, their names, and what errors say.
-use Rattle.std.specs.Prelude.{◌≡◌, ℕ, List, [], ◌∷◌, map, slice_index_or, codes, Option, Some, None, Result}
+use Rattle.std.specs.Prelude.{◌≡◌, ℕ, List, [], ◌∷◌, map, slice_index_or, codes, Option, Some, None}
 use denote.Enum.Declared.{tag_of}
 use Rattle.byte_view.specs.Reading as reading
 use Rattle.byte_view.specs.ElfParts as places
@@ -70,8 +70,3 @@ broken_part broken = Some (part_place broken.part, broken.at)
 abbrev pub refusal : ElfBad → Option reading.Broken
 refusal (BadElf part at) = Some (part_place part, at)
 refusal Memory = None
-
--- `Reads` of the readers' vocabulary at this crate's errors, for crates above that haven't moved
--- over
-abbrev pub Reads : {X Y : Type 0} → (X → Y) → Result X ElfBad → Result Y reading.Broken → Type 0
-Reads view result read = reading.Reads refusal view result read
