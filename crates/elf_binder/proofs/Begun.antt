@@ -1,5 +1,5 @@
 -- Where memory can be wanted while libraries are placed: not before the first load is.
-use Rattle.std.proofs.Common.{◌≡◌, ℕ, zero, suc, ◌+◌, ◌<◌, Bool, true, false, List, [], ◌∷◌, take, Option, Some, None, Result, Ok, Err, refl, subst, ap, ◌∙◌, sym, arith}
+use Rattle.std.proofs.Common.{◌≡◌, ℕ, zero, suc, ◌+◌, ◌<◌, Bool, true, false, List, [], ◌∷◌, take, Option, Some, None, Result, Ok, Err, refl, arith}
 use Rattle.std.specs.Prelude.{slice_get, nat_eq, IsOk, IsSome, if◌then◌else◌}
 use Rattle.std.specs.Option.{ok_or}
 use Rattle.byte_view.specs.ElfLoads.{Load}
