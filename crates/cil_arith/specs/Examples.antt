@@ -31,14 +31,14 @@ WorkedSums =
     × (unary_of Neg (I32 (negsuc 0x7FFFFFFF)) ≡ I32 (negsuc 0x7FFFFFFF))
     × (unary_of Not (I32 (pos 5)) ≡ I32 (negsuc 5))
 
--- the amounts 33, -1 and 65 by their low bits, and an int64 as an amount
+-- the amounts 33, -1 and 65 by their low bits, -7 shifted by 1, which rounds down, and an int64 as an amount
 abbrev pub WorkedShifts : Type 0
 WorkedShifts =
     (binary_of Shl (I32 (pos 1)) (I32 (pos 33)) ≡ Some (Ok (I32 (pos 2))))
     × (binary_of Shl (I32 (pos 1)) (N (negsuc 0)) ≡ Some (Ok (I32 (negsuc 0x7FFFFFFF))))
     × (binary_of Shl (I64 (pos 1)) (I32 (pos 65)) ≡ Some (Ok (I64 (pos 2))))
-    × (binary_of Shr (I32 (negsuc 7)) (I32 (pos 1)) ≡ Some (Ok (I32 (negsuc 3))))
-    × (binary_of ShrUn (I32 (negsuc 7)) (I32 (pos 1)) ≡ Some (Ok (I32 (pos 0x7FFFFFFC))))
+    × (binary_of Shr (I32 (negsuc 6)) (I32 (pos 1)) ≡ Some (Ok (I32 (negsuc 3))))
+    × (binary_of ShrUn (I32 (negsuc 6)) (I32 (pos 1)) ≡ Some (Ok (I32 (pos 0x7FFFFFFC))))
     × (binary_of Shl (I32 (pos 1)) (I64 (pos 1)) ≡ None)
 
 -- 0x1FF as an int8, -1 as a uint32, 0xFFFFFFFF as one, and -1 widened with and without a sign

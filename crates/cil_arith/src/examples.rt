@@ -21,7 +21,7 @@ pub fn sums_are_worked()
     ensures { WorkedSums }
 {}
 
-/// An int32 is shifted by the low 5 bits of 33, an int64 by the low 6 bits of 65.
+/// An int32 is shifted by the low 5 bits of 33, an int64 by the low 6 bits of 65; -7 shifted to the right by 1 is -4.
 #[tactic(auto, using(crate::proofs::Worked::shifts))]
 pub fn shifts_are_worked()
     ensures { WorkedShifts }
