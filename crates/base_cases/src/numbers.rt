@@ -1,4 +1,4 @@
-//! Numbers in bytes. The bytes of a case are in hexadecimal, `-` where there are none; an offset is `end` for the greatest.
+//! Numbers in bytes. The bytes of a case are in hexadecimal, `-` where there are none.
 
 use byte_view::{compressed, le16, le32, le64};
 use std::alloc::Global;
@@ -7,19 +7,25 @@ pub fn print(rt: &HostRuntime, words: &[&str]) -> anyhow::Result<bool> {
     match words {
         ["le16", bytes, at] => {
             let bytes = bytes_of(rt.alloc(), bytes)?;
-            print_number(rt, le16(bytes.as_slice(), offset(at)?).map(u64::from))?;
+            print_number(
+                rt,
+                le16(bytes.as_slice(), at.parse::<usize>()?).map(u64::from),
+            )?;
         }
         ["le32", bytes, at] => {
             let bytes = bytes_of(rt.alloc(), bytes)?;
-            print_number(rt, le32(bytes.as_slice(), offset(at)?).map(u64::from))?;
+            print_number(
+                rt,
+                le32(bytes.as_slice(), at.parse::<usize>()?).map(u64::from),
+            )?;
         }
         ["le64", bytes, at] => {
             let bytes = bytes_of(rt.alloc(), bytes)?;
-            print_number(rt, le64(bytes.as_slice(), offset(at)?))?;
+            print_number(rt, le64(bytes.as_slice(), at.parse::<usize>()?))?;
         }
         ["compressed", bytes, at] => {
             let bytes = bytes_of(rt.alloc(), bytes)?;
-            match compressed(bytes.as_slice(), offset(at)?) {
+            match compressed(bytes.as_slice(), at.parse::<usize>()?) {
                 Some((number, size)) => println!(rt; "{number} in {size}")?,
                 None => println!(rt; "none")?,
             }
@@ -29,19 +35,12 @@ pub fn print(rt: &HostRuntime, words: &[&str]) -> anyhow::Result<bool> {
     Ok(true)
 }
 
-fn offset(word: &str) -> anyhow::Result<usize> {
-    match word {
-        "end" => Ok(usize::MAX),
-        at => Ok(at.parse::<usize>()?),
-    }
-}
-
 /// The bytes that a word gives in hexadecimal, none for `-`.
 pub fn bytes_of(alloc: Global, word: &str) -> anyhow::Result<Vec<u8>> {
-    match word {
-        "-" => Ok(Vec::new(alloc)),
-        digits => Ok(hex::decode(alloc, digits)?),
+    if word == "-" {
+        return Ok(Vec::new(alloc));
     }
+    Ok(hex::decode(alloc, word)?)
 }
 
 /// Bytes in hexadecimal.

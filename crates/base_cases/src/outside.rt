@@ -76,10 +76,7 @@ fn print_read<S: Store>(
     at: &str,
     size: &str,
 ) -> anyhow::Result<()> {
-    let at = match at {
-        "end" => u64::MAX,
-        at => at.parse::<u64>()?,
-    };
+    let at = at.parse::<u64>()?;
     let mut into = [0u8; MOST];
     let size = size.parse::<usize>()?.min(MOST);
     match store.read(name, at, &mut into[..size]) {

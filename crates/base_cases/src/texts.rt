@@ -2,7 +2,7 @@
 
 use crate::numbers::bytes_of;
 use bound_base::{
-    BadImage, Bytes, Ending, NoMemory, Part, Reserved, SinkFault, StoreFault, Units, escape, laws,
+    BadImage, Ending, NoMemory, Part, Reserved, SinkFault, StoreFault, Units, escape, laws,
     standard_limits, status_of,
 };
 
@@ -77,30 +77,23 @@ fn ending_of(ending: &str, numbers: &[&str]) -> anyhow::Result<Option<Ending>> {
     }))
 }
 
-/// Pushes the first number, then adds the others as a slice, and prints the list by each call that reads one.
+/// Pushes the numbers and adds two zeros as a slice, and prints what the list has then.
 fn print_items(rt: &HostRuntime, numbers: &[&str]) -> anyhow::Result<()> {
-    let mut items = Bytes::new(rt.alloc());
-    print!(rt; "empty {}", items.is_empty())?;
-    let mut more = Units::with_capacity(rt.alloc(), numbers.len())?;
+    let mut items = Units::new(rt.alloc());
     for number in numbers {
-        more.push(number.parse::<u16>()?)?;
+        items.push(number.parse::<u16>()?)?;
     }
-    for unit in more.as_slice() {
-        items.push((*unit % 256) as u8)?;
+    print!(rt; "{} of them,", items.len())?;
+    items.extend_from_slice(&[0, 0])?;
+    for item in items.as_slice() {
+        print!(rt; " {item}")?;
     }
-    items.extend_from_slice(b"\0")?;
-    println!(rt;
-        ", then {:?}, len {}, empty {}, first {:?}, past the end {:?}",
-        items.as_slice(),
-        items.len(),
-        items.is_empty(),
-        items.get(0),
-        items.get(items.len())
-    )?;
+    println!(rt; "")?;
     Ok(())
 }
 
-/// Pushes numbers into room that is reserved before, as many as it has, and takes them out again in each way.
+/// Pushes numbers into room that is reserved before, as many as it has, and takes them out again: the last, the first, and
+/// all but one.
 fn print_reserved(rt: &HostRuntime, room: usize, numbers: &[&str]) -> anyhow::Result<()> {
     let mut items = Reserved::new(rt.alloc());
     items.reserve(room)?;
@@ -110,24 +103,23 @@ fn print_reserved(rt: &HostRuntime, room: usize, numbers: &[&str]) -> anyhow::Re
             items.push(number);
         }
     }
-    println!(rt;
-        "{:?}, len {}, empty {}, first {:?}",
-        items.as_slice(),
-        items.len(),
-        items.is_empty(),
-        items.get(0)
-    )?;
-    let last = items.pop();
-    let first = if items.is_empty() {
-        None
-    } else {
-        Some(items.remove(0))
-    };
-    print!(rt;
-        "last {last:?}, first {first:?}, then {:?}",
-        items.as_slice()
-    )?;
+    print_list(rt, items.as_slice())?;
+    let _ = items.pop();
+    print_list(rt, items.as_slice())?;
+    if items.len() > 1 {
+        let _ = items.remove(0);
+    }
+    print_list(rt, items.as_slice())?;
     items.truncate(1);
-    println!(rt; ", then {:?}", items.as_slice())?;
+    print_list(rt, items.as_slice())?;
+    println!(rt; " {}", items.is_empty())?;
+    Ok(())
+}
+
+fn print_list(rt: &HostRuntime, items: &[u32]) -> anyhow::Result<()> {
+    for item in items {
+        print!(rt; "{item} ")?;
+    }
+    print!(rt; "/")?;
     Ok(())
 }
