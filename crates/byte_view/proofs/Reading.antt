@@ -36,11 +36,6 @@ bind_err r f d e = rw e refl
 pub bind_read : {A B R : Type 0} (r : Result A R) (f : A → Result B R) (x : A) → r ≡ Ok x → (r >>= f) ≡ f x
 bind_read r f x e = rw e refl
 
--- a reading that fails fails in its first part, or goes on from it and fails then
-pub bind_cases : {A B R : Type 0} (r : Result A R) (f : A → Result B R) (d : R) → (r >>= f) ≡ Err d → (r ≡ Err d) ⊎ ((x : A) × (r ≡ Ok x) × (f x ≡ Err d))
-bind_cases (Ok x) f d e = inr (x, refl, e)
-bind_cases (Err c) f d e = inl (cc)
-
 -- a reading ends in one of two ways
 pub read_or_refused : {A R : Type 0} (r : Result A R) → ((x : A) × (r ≡ Ok x)) ⊎ ((d : R) × (r ≡ Err d))
 read_or_refused (Ok x) = inl (x, refl)

@@ -14,17 +14,6 @@ pub refuses_as : {A B E R : Type 0} (says : E → Option R) (e : E) (r : Result 
     → ((d : R) → r ≡ Err d → whole ≡ Err d) → Refuses says e r → Refuses says e whole
 refuses_as says e r whole fails h = goes_on (says e) r whole fails h
 
--- and each that goes on from it
-pub refuses_bind : {A B E R : Type 0} (says : E → Option R) (e : E) (r : Result A R) (f : A → Result B R)
-    → Refuses says e r → Refuses says e (r >>= f)
-refuses_bind says e r f h = refuses_as says e r (r >>= f) (λ d is. bind_err r f d is) h
-
--- a refused rest refuses the whole
-pub refuses_then : {A B E R : Type 0} (says : E → Option R) (e : E) (r : Result A R) (f : A → Result B R) (x : A)
-    → r ≡ Ok x → Refuses says e (f x) → Refuses says e (r >>= f)
-refuses_then says e r f x read h =
-    refuses_as says e (f x) (r >>= f) (λ d is. bind_read r f x read ∙ is) h
-
 pub each_refused : {E R : Type 0} (says : E → Option R) (e : E) (step : ℕ → Result ℕ R) (k m y : ℕ)
     → each step k ≡ Ok y → k < m → Refuses says e (step k) → Refuses says e (each step m)
 each_refused says e step k m y before h =
@@ -49,9 +38,3 @@ module _ {A R : Type 0} (F : ℕ → Result A R) (G : ℕ → A → Result A R) 
   -- the next step
   pub chain_more : (n : ℕ) (x y : A) → F n ≡ Ok x → G n x ≡ Ok y → F (n + 1) ≡ Ok y
   chain_more n x y before e = rw add-one (next n ∙ bind_read (F n) (G n) x before ∙ e)
-
-  pub chain_refused : {E : Type 0} (says : E → Option R) (e : E) (k m : ℕ) (x : A)
-      → F k ≡ Ok x → k < m → Refuses says e (G k x) → Refuses says e (F m)
-  chain_refused says e k m x before h =
-      refuses_as says e (G k x) (F m)
-      (λ d f. chain_failed (suc k) m d (next k ∙ bind_read (F k) (G k) x before ∙ f) h)

@@ -77,9 +77,6 @@ shape_at heap_sizes rows shapes table d e h =
     sym (get_or-map view_shape shapes table d (view_shape d) within) ∙ ap (λ (xs : List (List ℕ × ℕ)). get_or xs table (view_shape d)) e
     ∙ get_or-map-range_with_len (shape_of heap_sizes rows) 0 45 table table (view_shape d) h (omega arith)
 
-pub shapes_length : (heap_sizes : ℕ) (rows : List ℕ) (shapes : List Shape) → map view_shape shapes ≡ map (shape_of heap_sizes rows) (range_with_len 0 45) → length shapes ≡ 45
-shapes_length heap_sizes rows shapes e = sym (length-map shapes view_shape) ∙ ap length e ∙ length-map-range_with_len (shape_of heap_sizes rows) 0 45
-
 -- a table that has rows is one of the 45
 pub has_rows : (rows : List ℕ) (table row : ℕ) → length rows ≡ 45 → row < get_or rows table 0 → table < 45
 has_rows rows table row len h =
