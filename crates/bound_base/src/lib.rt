@@ -19,7 +19,7 @@ pub use image::{BadImage, Part};
 pub use items::{Bytes, Items, Units};
 pub use limits::{Lane, Limits, Rights, standard_limits};
 pub use memory::NoMemory;
-pub use names::{escape, printed_names_differ, printed_names_show};
+pub use names::escape;
 pub use outside::{Sink, SinkFault, Store, StoreFault};
 pub use put::PutError;
 pub use report::{Lending, LogEntry, Report};

@@ -1,7 +1,7 @@
 //! Names as they are printed.
 
 ghost use Rattle.std.specs.Prelude.{◌≡◌, ◌<◌, ◌++◌, IfOk, OnOk};
-ghost use Rattle.bound_base.specs.Names.{escaped, escaped_byte, stands, digit, PrintedNamesDiffer, PrintedNamesShow};
+ghost use Rattle.bound_base.specs.Names.{escaped, escaped_byte, stands, digit};
 
 use crate::items::Bytes;
 use crate::memory::NoMemory;
@@ -19,16 +19,6 @@ pub fn escape(alloc: Global, name: &[u8]) -> Result<Bytes, NoMemory>
     }
     Ok(text)
 }
-
-/// Names that differ differ in print. The contract is the law; the call does nothing.
-pub fn printed_names_differ()
-    ensures { PrintedNamesDiffer }
-{}
-
-/// A printed name has no space and no line end. The contract is the law; the call does nothing.
-pub fn printed_names_show()
-    ensures { PrintedNamesShow }
-{}
 
 /// How much room the printed form takes.
 fn escaped_len(name: &[u8]) -> usize {

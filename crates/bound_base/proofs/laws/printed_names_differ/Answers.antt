@@ -1,5 +1,5 @@
 use Rattle.bound_base.proofs.Printed.{printed_apart}
-use Rattle.bound_base.proofs.names.printed_names_differ.Goals as goal
+use Rattle.bound_base.proofs.laws.printed_names_differ.Goals as goal
 
 pub returns : goal.returns
 returns c = printed_apart
