@@ -12,7 +12,8 @@ use Rattle.host_bridge.specs.SymbolRun.{SymbolState, symbol_step, symbol_steps, 
 -- a fault names the pc of the call that goes on
 abbrev pub FaultsNameTheirPlace : Type 0
 FaultsNameTheirPlace =
-    (lane : Lane) (stack : ℕ) (run : SymbolState) (pc : ℕ) → symbol_step lane stack run ≡ Stops (Err (InitFault pc))
+    (lane : Lane) (stack : ℕ) (run : SymbolState) (pc : ℕ)
+    → symbol_step lane stack run ≡ Stops (Err (InitFault pc))
     → (regs : Regs) × (run.native ≡ Some regs) × (pc ≡ regs.pc)
 
 -- an event takes one unit of fuel
@@ -23,12 +24,14 @@ EventsTakeFuel = (lane : Lane) (stack : ℕ) → runs.TakesFuel (symbol_machine 
 abbrev pub RunsEnd : Type 0
 RunsEnd =
     (lane : Lane) (stack : ℕ) (run : SymbolState)
-    → (answer : Result ℕ Ending) × (symbol_step lane stack (symbol_steps lane stack run.fuel run) ≡ Stops answer)
+    → (answer : Result ℕ Ending)
+    × (symbol_step lane stack (symbol_steps lane stack run.fuel run) ≡ Stops answer)
 
 -- in one of three ways
 abbrev pub RunsEndInThreeWays : Type 0
 RunsEndInThreeWays =
-    (lane : Lane) (stack : ℕ) (inits : List ℕ) (at : ℕ) (words : List ℕ) (fuel : ℕ) (space : AddressSpace)
+    (lane : Lane) (stack : ℕ) (inits : List ℕ) (at : ℕ) (words : List ℕ)
+    (fuel : ℕ) (space : AddressSpace)
     → IsSymbolEnding (symbol_run lane stack inits at words fuel space).answer
 
 -- and where it ends, also by a fault, nothing changes any more
@@ -40,15 +43,17 @@ EndedRunsStay =
 -- a run that its fuel doesn't end is the same with more fuel
 abbrev pub MoreFuelIsTheSame : Type 0
 MoreFuelIsTheSame =
-    (lane : Lane) (stack : ℕ) (inits : List ℕ) (at : ℕ) (words : List ℕ) (fuel more : ℕ) (space : AddressSpace)
+    (lane : Lane) (stack : ℕ) (inits : List ℕ) (at : ℕ) (words : List ℕ)
+    (fuel more : ℕ) (space : AddressSpace)
     → (symbol_run lane stack inits at words fuel space).answer ≢ Err Spent
-    → symbol_run lane stack inits at words (fuel + more) space ≡ symbol_run lane stack inits at words fuel space
+    → symbol_run lane stack inits at words (fuel + more) space
+    ≡ symbol_run lane stack inits at words fuel space
 
 -- Of a run that begins with an initializer, by what this one comes to as a function without
 -- arguments: where it gives something, the run is that of the rest, from the memory and the fuel
 -- that it left, and nothing else of it; where it doesn't, the run ends so.
-pub record ComesFirst (lane : Lane) (stack init : ℕ) (inits : List ℕ) (at : ℕ) (words : List ℕ) (fuel : ℕ) (space : AddressSpace)
-    : Type 0 where
+pub record ComesFirst (lane : Lane) (stack init : ℕ) (inits : List ℕ) (at : ℕ) (words : List ℕ)
+    (fuel : ℕ) (space : AddressSpace) : Type 0 where
   pub gives : (answer : ℕ) (after : AddressSpace)
       → symbol_run lane stack [] init [] fuel space ≡ record { answer = Ok answer; space = after }
       → (left : ℕ) × (left + 2 ≤ fuel) × ((more : ℕ)
@@ -56,9 +61,11 @@ pub record ComesFirst (lane : Lane) (stack init : ℕ) (inits : List ℕ) (at : 
       ≡ symbol_run lane stack inits at words (left + more) after)
   pub ends : (ending : Ending) (after : AddressSpace)
       → symbol_run lane stack [] init [] fuel space ≡ record { answer = Err ending; space = after }
-      → symbol_run lane stack (init ∷ inits) at words fuel space ≡ record { answer = Err ending; space = after }
+      → symbol_run lane stack (init ∷ inits) at words fuel space
+      ≡ record { answer = Err ending; space = after }
 
 abbrev pub InitializersComeFirst : Type 0
 InitializersComeFirst =
-    (lane : Lane) (stack init : ℕ) (inits : List ℕ) (at : ℕ) (words : List ℕ) (fuel : ℕ) (space : AddressSpace)
+    (lane : Lane) (stack init : ℕ) (inits : List ℕ) (at : ℕ) (words : List ℕ)
+    (fuel : ℕ) (space : AddressSpace)
     → ComesFirst lane stack init inits at words fuel space

@@ -19,21 +19,23 @@ waiting calls answer space fuel = record {
 }
 
 abbrev pub running : Regs → List Call → ℕ → AddressSpace → ℕ → SymbolState
-running regs calls answer space fuel = record (waiting calls answer space fuel) { native = Some regs }
+running regs calls answer space fuel =
+    record (waiting calls answer space fuel) { native = Some regs }
 
 -- some events lead from one state to another
 abbrev pub SymbolRan : Lane → ℕ → SymbolState → SymbolState → Type 0
 SymbolRan lane stack old new = Ran (symbol_machine lane stack) old new [] []
 
 -- some events lead from a state to one at which the run ends, with this answer and this memory
-pub record SymbolEnds (lane : Lane) (stack : ℕ) (old : SymbolState) (answer : Result ℕ Ending) (space : AddressSpace)
-    : Type 0 where
+pub record SymbolEnds (lane : Lane) (stack : ℕ)
+    (old : SymbolState) (answer : Result ℕ Ending) (space : AddressSpace) : Type 0 where
   pub last : SymbolState
   pub ends : Ends (symbol_machine lane stack) old last [] [] answer
   pub at_end : last.space ≡ space
 
 -- some events lead from a state to one with this memory, and the run would go on there
-pub record SymbolPasses (lane : Lane) (stack : ℕ) (old : SymbolState) (space : AddressSpace) : Type 0 where
+pub record SymbolPasses (lane : Lane) (stack : ℕ) (old : SymbolState) (space : AddressSpace)
+    : Type 0 where
   pub between : SymbolState
   pub ran : SymbolRan lane stack old between
   pub next : SymbolState
@@ -46,7 +48,8 @@ pub record SymbolPasses (lane : Lane) (stack : ℕ) (old : SymbolState) (space :
 abbrev pub Comes : Lane → ℕ → Result ℕ Ending → SymbolState → (ℕ → SymbolState) → Type 0
 Comes lane stack (Ok answer) old new = SymbolRan lane stack old (new answer)
 Comes lane stack (Err Spent) old new = SymbolEnds lane stack old (Err Spent) (new 0).space
-Comes lane stack (Err (InitFault pc)) old new = SymbolEnds lane stack old (Err (InitFault pc)) (new 0).space
+Comes lane stack (Err (InitFault pc)) old new =
+    SymbolEnds lane stack old (Err (InitFault pc)) (new 0).space
 Comes lane stack (Err Memory) old new = SymbolPasses lane stack old (new 0).space
 Comes lane stack (Err (Returned number)) old new = ⊥
 Comes lane stack (Err (Exited number)) old new = ⊥
@@ -59,8 +62,10 @@ Comes lane stack (Err SinkFailed) old new = ⊥
 -- was wanting, and it leaves that of a state that it passed, where it would go on. No other ending
 -- comes.
 abbrev pub EndsBy : Ending → Lane → ℕ → SymbolState → AddressSpace → Type 0
-EndsBy Spent lane stack old space = outcome lane stack old ≡ record { answer = Err Spent; space = space }
-EndsBy (InitFault pc) lane stack old space = outcome lane stack old ≡ record { answer = Err (InitFault pc); space = space }
+EndsBy Spent lane stack old space =
+    outcome lane stack old ≡ record { answer = Err Spent; space = space }
+EndsBy (InitFault pc) lane stack old space =
+    outcome lane stack old ≡ record { answer = Err (InitFault pc); space = space }
 EndsBy Memory lane stack old space = SymbolPasses lane stack old space
 EndsBy (Returned number) lane stack old space = ⊥
 EndsBy (Exited number) lane stack old space = ⊥

@@ -44,16 +44,23 @@ begun lane stack run call rest =
 
 -- the end of a call, which looks at a0 alone
 abbrev pub call_ended : SymbolState → Regs → SymbolState
-call_ended run regs = record run { native = None; answer = slice_index regs.x first_argument_register; fuel = run.fuel - 1 }
+call_ended run regs =
+    record run {
+      native = None;
+      answer = slice_index regs.x first_argument_register;
+      fuel = run.fuel - 1;
+    }
 
 -- native code has come to a place below memory: the return place ends its call, and each other one
 -- is a fault
 abbrev pub arrived : SymbolState → Regs → ℕ → SymbolNext
-arrived run regs place = if place == return_place then goes (call_ended run regs) else Stops (Err (InitFault place))
+arrived run regs place =
+    if place == return_place then goes (call_ended run regs) else Stops (Err (InitFault place))
 
 -- an event of native code
 abbrev pub turned : SymbolState → Regs → NativeNext → SymbolNext
-turned run regs (Continues regs' space) = goes (record run { native = Some regs'; space = space; fuel = run.fuel - 1 })
+turned run regs (Continues regs' space) =
+    goes (record run { native = Some regs'; space = space; fuel = run.fuel - 1 })
 turned run regs (Arrives place) = arrived run regs place
 turned run regs (Faults pc) = Stops (Err (InitFault pc))
 
@@ -63,7 +70,8 @@ fueled fuel next = if fuel == 0 then Stops (Err Spent) else next
 
 -- by the call that goes on, and those that haven't begun
 abbrev pub chosen : Lane → ℕ → SymbolState → Option Regs → List Call → SymbolNext
-chosen lane stack run (Some regs) calls = fueled run.fuel (turned run regs (native_next lane.errno regs run.space))
+chosen lane stack run (Some regs) calls =
+    fueled run.fuel (turned run regs (native_next lane.errno regs run.space))
 chosen lane stack run None (call ∷ rest) = fueled run.fuel (goes (begun lane stack run call rest))
 chosen lane stack run None [] = Stops (Ok run.answer)
 
@@ -111,7 +119,8 @@ start inits at words fuel space = record {
 
 -- a whole run: the initializers, and then the function at an address with its argument words
 abbrev pub symbol_run : Lane → ℕ → List ℕ → ℕ → List ℕ → ℕ → AddressSpace → Outcome
-symbol_run lane stack inits at words fuel space = outcome lane stack (start inits at words fuel space)
+symbol_run lane stack inits at words fuel space =
+    outcome lane stack (start inits at words fuel space)
 
 -- a run gives a number, or ends for want of fuel or by a fault
 abbrev pub IsSymbolEnding : Result ℕ Ending → Type 0

@@ -37,7 +37,8 @@ pub fn run_calls(
         symbol_run lane stack inits.now at words.now fuel memory.old.space
         ≡ record { answer = Ok answer; space = memory.new.space }) }
     ensures err { IfErr result (λ ending.
-        EndsBy ending lane stack (start inits.now at words.now fuel memory.old.space) memory.new.space) }
+        EndsBy ending lane stack (start inits.now at words.now fuel memory.old.space)
+        memory.new.space) }
 {
     let mut left = fuel;
     for init in inits {

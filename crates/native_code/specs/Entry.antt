@@ -1,9 +1,10 @@
 -- Entering native code (RISC-V ELF psABI, Integer Calling Convention).
-use Rattle.std.specs.Prelude.{ℕ, ◌+◌, ◌*◌, ◌/◌, List, [], ◌∷◌, replicate, slice_set}
+use Rattle.std.specs.Prelude.{ℕ, Bool, ◌==◌, slice_index, ◌+◌, ◌*◌, ◌/◌, List, [], ◌∷◌, replicate, slice_set}
+use Rattle.std.specs.List.{list_all}
 use Rattle.bound_base.specs.declared.limits.Lane.{Lane}
 use Rattle.lp64_convention.specs.declared.places.Slot.{Slot}
 use Rattle.lp64_convention.specs.declared.places.Slot.TheVariants.{Reg, Stack}
-use Rattle.lp64_convention.specs.Places.{place_of}
+use Rattle.lp64_convention.specs.Places.{place_of, preserved_registers}
 use Rattle.rv_machine.specs.declared.registers.Regs.{Regs}
 use Rattle.native_code.specs.Places.{return_place}
 
@@ -40,3 +41,8 @@ stack_top lane stack = lane.stack + stack
 -- the stack pointer of an outermost entry: the greatest multiple of 16 not above that end
 abbrev pub first_sp : Lane → ℕ → ℕ
 first_sp lane stack = stack_top lane stack / 16 * 16
+
+-- the registers that a function leaves to its caller are as they were at an entry
+unfoldable pub keeps_preserved : Regs → Regs → Bool
+keeps_preserved entry now =
+    list_all (λ number. slice_index now.x number == slice_index entry.x number) preserved_registers

@@ -40,7 +40,8 @@ after_step errno (Fault _) s = Faults s.pc
 -- error
 unfoldable pub native_next : ℕ → Regs → AddressSpace → NativeNext
 native_next errno regs memory =
-    let stepped : Step × State = rv_step (state_of regs memory) in after_step errno stepped.0 stepped.1
+    let stepped : Step × State = rv_step (state_of regs memory)
+    in after_step errno stepped.0 stepped.1
 
 -- memory may be wanting for an event: where the host function at pc takes some
 abbrev pub wants_at : List ℕ → AddressSpace → Option ℕ → Bool

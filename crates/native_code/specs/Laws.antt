@@ -14,7 +14,8 @@ use Rattle.native_code.specs.Events.{Continues, Arrives, Faults, native_next}
 -- a fault of native code names its pc
 abbrev pub FaultsNameTheirPlace : Type 0
 FaultsNameTheirPlace =
-    (errno : ℕ) (regs : Regs) (memory : AddressSpace) (pc : ℕ) → native_next errno regs memory ≡ Faults pc → pc ≡ regs.pc
+    (errno : ℕ) (regs : Regs) (memory : AddressSpace) (pc : ℕ)
+    → native_next errno regs memory ≡ Faults pc → pc ≡ regs.pc
 
 -- native code arrives at its pc, which is below memory and the place of no host function
 pub record IsArrival (pc place : ℕ) : Type 0 where
@@ -34,7 +35,8 @@ pub record IsEntry (at sp : ℕ) (words : List ℕ) (regs : Regs) : Type 0 where
   pub count : length regs.x ≡ 32
   pub ra : slice_index regs.x return_register ≡ return_place
   pub stack : slice_index regs.x stack_register ≡ sp
-  pub passed : (k number : ℕ) → k < length words → place_of k ≡ Reg number → slice_index regs.x number ≡ slice_index words k
+  pub passed : (k number : ℕ) → k < length words → place_of k ≡ Reg number
+      → slice_index regs.x number ≡ slice_index words k
   pub others : (number : ℕ) → number ≢ return_register → number ≢ stack_register
       → ((k : ℕ) → k < length words → place_of k ≢ Reg number) → slice_index regs.x number ≡ 0
 

@@ -1,12 +1,12 @@
 //! Entering native code (RISC-V ELF psABI, Integer Calling Convention).
 
-ghost use Rattle.std.specs.Prelude.{◌≡◌, ◌+◌, ◌<◌, ◌^◌, length};
+ghost use Rattle.std.specs.Prelude.{◌≡◌, ◌==◌, slice_index, ◌+◌, ◌<◌, ◌^◌, length};
 ghost use Rattle.lp64_convention.specs.Places.{place_of};
-ghost use Rattle.native_code.specs.Entry.{entry_registers, first_sp, stack_top, with_word};
+ghost use Rattle.native_code.specs.Entry.{entry_registers, first_sp, keeps_preserved, stack_top, with_word};
 
 use crate::places::RETURN;
 use bound_base::Lane;
-use lp64_convention::{Slot, word_place};
+use lp64_convention::{PRESERVED_REGISTERS, Slot, word_place};
 use rv_machine::Regs;
 
 /// `ra`, the register of the return address.
@@ -49,4 +49,23 @@ fn pass(x: &mut [u64; 32], k: u64, word: u64)
         Slot::Reg(number) => x[usize::from(number)] = word,
         Slot::Stack(_) => {}
     }
+}
+
+/// Whether the registers that a function leaves to its caller (`sp`, `gp`, `tp`, `s0` to `s11`) are as
+/// they were at an entry.
+#[tactic(auto, unfolding(crate::specs::Entry::keeps_preserved))]
+pub fn keeps_preserved(entry: &Regs, now: &Regs) -> bool
+    ensures { result ≡ keeps_preserved entry.now now.now }
+{
+    PRESERVED_REGISTERS
+        .iter()
+        .all(|number| is_same(entry, now, *number))
+}
+
+/// Whether a register is the same. A number from 32 on names none.
+fn is_same(entry: &Regs, now: &Regs, number: u8) -> bool
+    ensures { result ≡ (slice_index now.now.x number == slice_index entry.now.x number) }
+{
+    let k = usize::from(number);
+    k >= 32 || now.x[k] == entry.x[k]
 }

@@ -6,6 +6,6 @@ pub mod laws;
 mod one_event;
 mod places;
 
-pub use entry::{entry_registers, first_sp};
+pub use entry::{entry_registers, first_sp, keeps_preserved};
 pub use one_event::{Event, native_event};
 pub use places::RETURN;

@@ -14,13 +14,15 @@ abbrev pub StepsAdd : {S P L E : Type 0} → Machine S P L E → Type 0
 StepsAdd {S} m =
     (first more : ℕ) (state : S)
     → Steps m (first + more) state
-    ≡ before (Steps m first state).output (Steps m first state).log (Steps m more (Steps m first state).state)
+    ≡ before (Steps m first state).output (Steps m first state).log
+    (Steps m more (Steps m first state).state)
 
 -- the same of parts of a run, and of its end
 abbrev pub PartsJoin : {S P L E : Type 0} → Machine S P L E → Type 0
 PartsJoin {S} {P} {L} {E} m =
     (old mid new : S) (output output' : List P) (log log' : List L)
-    → Ran m old mid output log → Ran m mid new output' log' → Ran m old new (output ++ output') (log ++ log')
+    → Ran m old mid output log → Ran m mid new output' log'
+    → Ran m old new (output ++ output') (log ++ log')
 
 abbrev pub EndsJoin : {S P L E : Type 0} → Machine S P L E → Type 0
 EndsJoin {S} {P} {L} {E} m =
@@ -31,7 +33,8 @@ EndsJoin {S} {P} {L} {E} m =
 abbrev pub FrontsJoin : {S P L E : Type 0} → Machine S P L E → Type 0
 FrontsJoin {S} {P} {L} {E} m =
     (old mid : S) (output output' : List P) (log log' : List L)
-    → Ran m old mid output log → Begins m mid output' log' → Begins m old (output ++ output') (log ++ log')
+    → Ran m old mid output log → Begins m mid output' log'
+    → Begins m old (output ++ output') (log ++ log')
 
 -- where a run has ended, nothing changes any more
 abbrev pub EndedRunsStay : {S P L E : Type 0} → Machine S P L E → Type 0
@@ -56,10 +59,12 @@ abbrev pub RunsEnd : {S P L E : Type 0} → Machine S P L E → Type 0
 RunsEnd {S} m = (state : S) → EndOf m state
 
 -- a state with more fuel does the same, unless it ends for want of fuel
-pub record Refuels {S P L E : Type 0} (m : Machine S P L E) (spent : E) (more : S → S) : Type 0 where
+pub record Refuels {S P L E : Type 0} (m : Machine S P L E) (spent : E) (more : S → S)
+    : Type 0 where
   pub goes : (old new : S) (output : List P) (log : List L)
       → m.step old ≡ Goes new output log → m.step (more old) ≡ Goes (more new) output log
-  pub stops : (last : S) (ending : E) → ending ≢ spent → m.step last ≡ Stops ending → m.step (more last) ≡ Stops ending
+  pub stops : (last : S) (ending : E) → ending ≢ spent
+      → m.step last ≡ Stops ending → m.step (more last) ≡ Stops ending
 
 -- and then a run that its fuel doesn't end is the same with more fuel
 abbrev pub MoreFuelIsTheSame : {S P L E : Type 0} → Machine S P L E → Type 0

@@ -24,7 +24,8 @@ stays state = record { state = state; output = []; log = [] }
 
 -- a run with what came before it
 abbrev pub before : {S P L : Type 0} → List P → List L → Run S P L → Run S P L
-before output log run = record { state = run.state; output = output ++ run.output; log = log ++ run.log }
+before output log run =
+    record { state = run.state; output = output ++ run.output; log = log ++ run.log }
 
 -- an event, and then some more; a run that is over stays as it is
 abbrev pub after : {S P L E : Type 0} → S → (S → Run S P L) → Next S P L E → Run S P L

@@ -9,7 +9,17 @@
 #![tactic(auto)]
 
 ghost use Rattle.runs.specs.Machines.{Machine};
-ghost use Rattle.runs.specs.Laws.{TakesFuel, StepsAdd, PartsJoin, EndsJoin, FrontsJoin, EndedRunsStay, FuelLeadsToEnds, RunsEnd, MoreFuelIsTheSame};
+ghost use Rattle.runs.specs.Laws.{
+  TakesFuel,
+  StepsAdd,
+  PartsJoin,
+  EndsJoin,
+  FrontsJoin,
+  EndedRunsStay,
+  FuelLeadsToEnds,
+  RunsEnd,
+  MoreFuelIsTheSame,
+};
 
 /// A type whose values, as contracts see them, are the states of a machine.
 pub trait HasRuns {
