@@ -5,7 +5,7 @@ use Rattle.std.proofs.lemmas.List.{length-map, get_or-map}
 use Rattle.std.proofs.lemmas.List.Sums.{position_or_len_is, sum_by-drop_more}
 use Rattle.std.proofs.lemmas.Bool.{cond-true, cond-false}
 use Rattle.std.specs.Prelude.{if◌then◌else◌, sum_by, option_map, option_and_then}
-use Rattle.std.specs.List.{position_or_len, take-map, drop-map}
+use Rattle.std.specs.List.{after_first, position_or_len, take-map, drop-map}
 use Rattle.std.specs.declared.alloc.Global.{Global}
 use Rattle.host_run.specs.Grammar.{texts, with_word, no_words, said_by, said_whole, word_value, values, is_end, fits_program, run}
 use Rattle.host_run.specs.declared.options.Options.{Options}
@@ -87,3 +87,10 @@ run_said words end before program said at is fit counted says =
     ap (λ n. option_and_then (said_whole n) said) counted
     ∙ ap (option_and_then (said_whole (1 + min (end + 1) (length words)))) says
     ∙ sym (run_is words end at ∙ cond-true _ _ _ (ap (λ (p : List (String Global)). fits_program (texts p)) (sym is) ∙ fit))
+
+-- the program's words fit
+pub program_fits : (words : List (String Global)) (end : ℕ) (program : List (String Global)) → end ≡ position_or_len is_end (texts words) → program ≡ drop (end + 1) words → fits_program (texts program) ≡ true → fits_program (after_first is_end (texts words)) ≡ true
+program_fits words end program at is fit =
+    ap (λ n. fits_program (drop (n + 1) (texts words))) (sym at)
+    ∙ ap fits_program (drop-map string_bytes (end + 1) words)
+    ∙ ap (λ (p : List (String Global)). fits_program (texts p)) (sym is) ∙ fit

@@ -13,3 +13,4 @@ pub mod Readings
 pub mod RunItems
 pub mod Settled
 pub mod Texts
+pub mod WordMemory

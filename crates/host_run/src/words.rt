@@ -1,7 +1,8 @@
 //! The line grammar: from the words of a line to its command.
 
-ghost use Rattle.std.specs.Prelude.{◌≡◌, ◌≤◌, IfOk, length, drop};
-ghost use Rattle.std.specs.List.{position_or_len};
+ghost use Rattle.std.specs.Prelude.{◌≡◌, ◌≤◌, IfOk, OnErr, true, is_some, length, drop};
+ghost use Rattle.std.specs.List.{position_or_len, after_first};
+ghost use Rattle.host_run.specs.WordMemory.{keeps_words, has_parts_of_call};
 ghost use Rattle.host_run.specs.Grammar.{texts, command, lone_file, native, values, run, drill, is_end, no_words, said_by, said_whole, fits_program};
 
 use crate::command::{Command, RunWords, Word, Words8};
@@ -18,9 +19,12 @@ const PROGRAM_WORDS: usize = 65_536;
 
 const PROGRAM_BYTES: usize = 16_777_216;
 
-/// The command that a line's words ask for; None exactly where they are outside the line grammar.
+/// The command that a line's words ask for; None exactly where they are outside the line grammar. Memory is wanted only
+/// where words are kept: a line whose first word is no command, or that has too few or too many words, needs none.
+#[tactic(auto, unfolding(crate::specs::WordMemory::keeps_words))]
 pub fn read_words(alloc: Global, words: &[String]) -> Result<Option<Command>, NoMemory>
-    ensures { IfOk result (λ found. found ≡ command (texts words.now)) }
+    ensures command { IfOk result (λ found. found ≡ command (texts words.now)) }
+    ensures memory { OnErr result (keeps_words (texts words.now) ≡ true) }
 {
     let Some((name, rest)) = words.split_first() else {
         return Ok(None);
@@ -43,7 +47,8 @@ pub fn read_words(alloc: Global, words: &[String]) -> Result<Option<Command>, No
 
 /// The one word, where it may name a file.
 fn lone_file(alloc: Global, words: &[String]) -> Result<Option<Word>, NoMemory>
-    ensures { IfOk result (λ found. found ≡ lone_file (texts words.now)) }
+    ensures file { IfOk result (λ found. found ≡ lone_file (texts words.now)) }
+    ensures memory { OnErr result (is_some (lone_file (texts words.now)) ≡ true) }
 {
     match words {
         [file] if names_file(file.as_str()) => Ok(Some(Word::new(alloc, file.as_str())?)),
@@ -53,7 +58,8 @@ fn lone_file(alloc: Global, words: &[String]) -> Result<Option<Word>, NoMemory>
 
 /// The words after `native`.
 fn native(alloc: Global, words: &[String]) -> Result<Option<Command>, NoMemory>
-    ensures { IfOk result (λ found. found ≡ native (texts words.now)) }
+    ensures call { IfOk result (λ found. found ≡ native (texts words.now)) }
+    ensures memory { OnErr result (has_parts_of_call (texts words.now) ≡ true) }
 {
     let [lib, symbol, arguments @ ..] = words else {
         return Ok(None);
@@ -85,7 +91,8 @@ fn values(alloc: Global, words: &[String]) -> Result<Option<Words8>, NoMemory>
 
 /// The words after `run`.
 fn run(alloc: Global, words: &[String]) -> Result<Option<Command>, NoMemory>
-    ensures { IfOk result (λ found. found ≡ run (texts words.now)) }
+    ensures program { IfOk result (λ found. found ≡ run (texts words.now)) }
+    ensures memory { OnErr result (fits_program (after_first is_end (texts words.now)) ≡ true) }
 {
     let end = end_of(words);
     let before = 1 + (end + 1).min(words.len());

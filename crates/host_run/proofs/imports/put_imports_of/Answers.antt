@@ -15,16 +15,16 @@ returns-in-Err g c =
 
 pub returns-in-Err-read_meta : goal.returns-in-Err-read_meta
 returns-in-Err-read_meta g c =
-    finishes-broken (refusal c.in-Err-read_meta.error) (assembly c.args.bytes.now) c.broken_image-in-Err-read_meta.result _ (metadata_refuses refusal c.in-Err-read_meta.error c.args.bytes.now _ c.in-Ok.ensures.headers c.in-Err-read_meta.ensures) c.broken_image-in-Err-read_meta.ensures refl refl
+    finishes-broken (refusal c.in-Err-read_meta.error) (assembly c.args.bytes.now) c.broken_image-in-Err-read_meta.result _ (metadata_refuses refusal c.in-Err-read_meta.error c.args.bytes.now _ c.in-Ok.ensures.headers c.in-Err-read_meta.ensures.reads) c.broken_image-in-Err-read_meta.ensures refl refl
 
 pub returns-in_err-put_imports : goal.returns-in_err-put_imports
 returns-in_err-put_imports g c =
     let p = err_from_is_err_and c.from_residual.result c.from_residual.ensures.1 in
     let m = c.in-Ok-read_meta.meta in
     rw (p.1, p.2)
-    (finishes-same (done (imports_text m)) (imports_of (assembly c.args.bytes.now)) _ _ (ap imports_of (assembly_read c.args.bytes.now _ m c.in-Ok.ensures.headers c.in-Ok-read_meta.ensures)) (finishes-stopped (imports_text m) _ _ c.in_err-put_imports.ensures.puts c.in_err-put_imports.ensures.counted c.in_err-put_imports.ensures.count))
+    (finishes-same (done (imports_text m)) (imports_of (assembly c.args.bytes.now)) _ _ (ap imports_of (assembly_read c.args.bytes.now _ m c.in-Ok.ensures.headers c.in-Ok-read_meta.ensures.reads)) (finishes-stopped (imports_text m) _ _ c.in_err-put_imports.ensures.puts c.in_err-put_imports.ensures.counted c.in_err-put_imports.ensures.count))
 
 pub returns : goal.returns
 returns g c =
     let m = c.in-Ok-read_meta.meta in
-    finishes-same (done (imports_text m)) (imports_of (assembly c.args.bytes.now)) _ _ (ap imports_of (assembly_read c.args.bytes.now _ m c.in-Ok.ensures.headers c.in-Ok-read_meta.ensures)) (finishes-done (imports_text m) c.done.result _ c.done.ensures.status c.done.ensures.texts c.in_ok-put_imports.ensures.puts c.in_ok-put_imports.ensures.counted c.in_ok-put_imports.ensures.count)
+    finishes-same (done (imports_text m)) (imports_of (assembly c.args.bytes.now)) _ _ (ap imports_of (assembly_read c.args.bytes.now _ m c.in-Ok.ensures.headers c.in-Ok-read_meta.ensures.reads)) (finishes-done (imports_text m) c.done.result _ c.done.ensures.status c.done.ensures.texts c.in_ok-put_imports.ensures.puts c.in_ok-put_imports.ensures.counted c.in_ok-put_imports.ensures.count)

@@ -12,7 +12,7 @@ returns-in_err-command g c =
 
 pub returns-in-None : goal.returns-in-None
 returns-in-None g c =
-    obeys-usage (command (texts c.args.words.now)) (texts c.args.words.now) _ c.usage.result _ _ (λ files. usage-for (command (texts c.args.words.now)) None (texts c.args.words.now) files (sym c.in_ok-command.ensures ∙ c.in-None.is) refl) c.usage.ensures refl refl refl refl
+    obeys-usage (command (texts c.args.words.now)) (texts c.args.words.now) _ c.usage.result _ _ (λ files. usage-for (command (texts c.args.words.now)) None (texts c.args.words.now) files (sym c.in_ok-command.ensures.command ∙ c.in-None.is) refl) c.usage.ensures refl refl refl refl
 
 pub obey-requires : goal.obey-requires
-obey-requires g c = bounds-kept (texts c.args.words.now) _ c.in-Some.command c.in_ok-command.ensures c.in-Some.is
+obey-requires g c = bounds-kept (texts c.args.words.now) _ c.in-Some.command c.in_ok-command.ensures.command c.in-Some.is
