@@ -13,7 +13,8 @@ use Rattle.elf_binder.specs.Sources.{IsRead}
 -- the bases of libraries are multiples of 65,536
 abbrev pub BasesAreWhole : Type 0
 BasesAreWhole =
-    (space : AddressSpace) (sources : List Source) (placed : Placed) → place_all space sources ≡ Ok placed
+    (space : AddressSpace) (sources : List Source) (placed : Placed)
+    → place_all space sources ≡ Ok placed
     → All (λ base. base % 65536 ≡ 0) placed.bases
 
 -- Two loads of libraries that were read share no byte: each that has bytes ends before those of

@@ -41,7 +41,8 @@ is_wanted only_callable export = not only_callable || export.callable
 -- the indexes of the exports that are wanted, in their order
 abbrev pub indexes_of : Bool → List Export → List ℕ
 indexes_of only_callable exports =
-    map (λ entry. entry.0) (filter (λ entry. is_wanted only_callable entry.1) (enumerate_from 0 exports))
+    map (λ entry. entry.0)
+    (filter (λ entry. is_wanted only_callable entry.1) (enumerate_from 0 exports))
 
 -- The indexes are in order of the names, and the first index of a name is that of the first
 -- export of this name that is wanted.

@@ -92,7 +92,8 @@ library_named modules name =
 -- may be
 unfoldable pub callable_in : List ℕ → Module → Option ℕ
 callable_in name m =
-    option_map (λ export. export.address) (find (λ export. export.callable && has_name name export) m.exports)
+    option_map (λ export. export.address)
+    (find (λ export. export.callable && has_name name export) m.exports)
 
 -- the address of a name that may be called, by the number of a library
 unfoldable pub symbol_in : List Module → ℕ → List ℕ → Option ℕ

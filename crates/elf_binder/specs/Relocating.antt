@@ -92,7 +92,8 @@ write_relocation modules source base space r kind = do
       (source.number, parts.reloc_target, r.at)
   symbol ← ok_or (value_for modules source.library.symbols kind r.symbol)
       (source.number, parts.unresolved, r.at + 8)
-  ok_or (written_at space (base + r.offset) (bytes_for kind base symbol (cast_unsigned w64 r.addend)))
+  let bytes : List ℕ = bytes_for kind base symbol (cast_unsigned w64 r.addend)
+  ok_or (written_at space (base + r.offset) bytes)
       (source.number, parts.reloc_target, r.at)
 
 -- by its kind; R_RISCV_NONE has no target

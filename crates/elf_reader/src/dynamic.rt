@@ -8,9 +8,10 @@ ghost use Rattle.elf_reader.specs.Elf.{dynamic_entry};
 ghost use Rattle.elf_reader.specs.Refusals.{broken_part, refusal};
 
 use crate::entry::{Entry, Table};
-use crate::fields::{broken, must, number64};
+use crate::fields::{broken, must};
 use crate::headers::{HEADER_SIZE, Headers, header_type};
 use crate::part::{Broken, ElfBad, ElfPart};
+use byte_view::number64;
 use std::alloc::Global;
 
 /// `p_type` of the dynamic section.

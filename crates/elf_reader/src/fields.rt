@@ -1,12 +1,11 @@
 //! The fields of a header, and what is refused where one is missing or wrong.
 
-ghost use Rattle.std.specs.Prelude.{◌≡◌, ◌+◌, ◌≤◌, length};
-ghost use Rattle.byte_view.specs.Numbers.{le};
+ghost use Rattle.std.specs.Prelude.{◌≡◌};
 ghost use Rattle.byte_view.specs.Reading as reading;
 ghost use Rattle.elf_reader.specs.Refusals.{broken_part, part_place};
 
 use crate::part::{Broken, ElfPart};
-use byte_view::{le16, le32, le64};
+use byte_view::{le8, le16, le32};
 
 /// The refusal of a part at a file offset.
 pub fn broken(part: ElfPart, at: usize) -> Broken
@@ -26,12 +25,11 @@ pub fn must(holds: bool, part: ElfPart, at: usize) -> Result<(), Broken>
 }
 
 /// The number in the byte at `at`; the part is refused there if the file ends before it does.
-#[tactic(auto, unfolding(byte_view::specs::Numbers::le))]
 pub fn field8(part: ElfPart, bytes: &[u8], at: usize) -> Result<u8, Broken>
     ensures { reading.Reads broken_part (λ x. x) result
         (reading.field (part_place part) bytes.now at 1) }
 {
-    bytes.get(at).copied().ok_or(broken(part, at))
+    le8(bytes, at).ok_or(broken(part, at))
 }
 
 /// The number in the two bytes at `at`; the part is refused there if the file ends before they do.
@@ -48,37 +46,4 @@ pub fn field32(part: ElfPart, bytes: &[u8], at: usize) -> Result<u32, Broken>
         (reading.field (part_place part) bytes.now at 4) }
 {
     le32(bytes, at).ok_or(broken(part, at))
-}
-
-/// The number in the byte at `at`, which is in the file.
-#[tactic(auto, unfolding(byte_view::specs::Numbers::le))]
-pub fn number8(bytes: &[u8], at: usize) -> u8
-    requires { at + 1 ≤ length bytes.now }
-    ensures { result ≡ le bytes.now at 1 }
-{
-    bytes[at]
-}
-
-/// The number in the two bytes at `at`, which are in the file.
-pub fn number16(bytes: &[u8], at: usize) -> u16
-    requires { at + 2 ≤ length bytes.now }
-    ensures { result ≡ le bytes.now at 2 }
-{
-    le16(bytes, at).unwrap()
-}
-
-/// The number in the four bytes at `at`, which are in the file.
-pub fn number32(bytes: &[u8], at: usize) -> u32
-    requires { at + 4 ≤ length bytes.now }
-    ensures { result ≡ le bytes.now at 4 }
-{
-    le32(bytes, at).unwrap()
-}
-
-/// The number in the eight bytes at `at`, which are in the file.
-pub fn number64(bytes: &[u8], at: usize) -> u64
-    requires { at + 8 ≤ length bytes.now }
-    ensures { result ≡ le bytes.now at 8 }
-{
-    le64(bytes, at).unwrap()
 }

@@ -13,9 +13,10 @@ ghost use Rattle.elf_reader.specs.Refusals.{broken_part};
 use crate::dynamic::{DT_GNU_HASH, DT_HASH, first_of};
 use crate::elf::Load;
 use crate::entry::Entry;
-use crate::fields::{broken, number32};
+use crate::fields::broken;
 use crate::loads::{range_from, table_place};
 use crate::part::{Broken, ElfPart};
+use byte_view::number32;
 
 /// What a word leaves by 2 that ends a chain of the GNU linker's table.
 const CHAIN_END: u32 = 1;

@@ -8,8 +8,9 @@ ghost use Rattle.byte_view.specs.ElfParts as parts;
 ghost use Rattle.byte_view.specs.Reading.{Reads};
 ghost use Rattle.elf_reader.specs.Refusals.{broken_part};
 
-use crate::fields::{field8, field16, field32, must, number32, number64};
+use crate::fields::{field8, field16, field32, must};
 use crate::part::{Broken, ElfPart};
+use byte_view::{number32, number64};
 
 /// The first four bytes of an ELF file: 0x7F and `ELF`.
 const MAGIC: u32 = 0x464C_457F;

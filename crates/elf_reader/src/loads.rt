@@ -11,10 +11,11 @@ ghost use Rattle.elf_reader.specs.Refusals.{broken_part, refusal, part_place};
 
 use crate::elf::{Load, Loads};
 use crate::entry::Entry;
-use crate::fields::{broken, must, number32, number64};
+use crate::fields::{broken, must};
 use crate::headers::{HEADER_SIZE, Headers, header_type};
 use crate::part::{Broken, ElfBad, ElfPart};
 use bound_base::Rights;
+use byte_view::{number32, number64};
 use std::alloc::Global;
 
 /// `p_type` of a load.

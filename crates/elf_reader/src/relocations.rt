@@ -11,9 +11,9 @@ ghost use Rattle.elf_reader.specs.Refusals.{refusal};
 use crate::dynamic::{DT_JMPREL, DT_PLTRELSZ, DT_RELA, DT_RELASZ, first_of, value_of};
 use crate::elf::{Load, Relocation, Relocations};
 use crate::entry::Entry;
-use crate::fields::number64;
 use crate::loads::table_place;
 use crate::part::{ElfBad, ElfPart};
+use byte_view::number64;
 use std::alloc::Global;
 
 /// The size of a relocation, in bytes.

@@ -13,12 +13,13 @@ ghost use Rattle.elf_reader.specs.declared.part.ElfBad.TheVariants.{Memory};
 use crate::dynamic::{DT_STRTAB, DT_SYMTAB, first_of};
 use crate::elf::{Load, Symbol, Symbols};
 use crate::entry::Entry;
-use crate::fields::{broken, number8, number16, number32, number64};
+use crate::fields::broken;
 use crate::hashes::symbol_count;
 use crate::loads::table_place;
 use crate::names::{Zeros, find_zeros, name_at};
 use crate::part::{Broken, ElfBad, ElfPart};
 use bound_base::Bytes;
+use byte_view::{number8, number16, number32, number64};
 use std::alloc::Global;
 
 /// The size of a symbol, in bytes.
