@@ -1,10 +1,17 @@
 //! Numbers in bytes. The bytes of a case are in hexadecimal, `-` where there are none.
 
-use byte_view::{compressed, le16, le32, le64};
+use byte_view::{compressed, le8, le16, le32, le64};
 use std::alloc::Global;
 
 pub fn print(rt: &HostRuntime, words: &[&str]) -> anyhow::Result<bool> {
     match words {
+        ["le8", bytes, at] => {
+            let bytes = bytes_of(rt.alloc(), bytes)?;
+            print_number(
+                rt,
+                le8(bytes.as_slice(), at.parse::<usize>()?).map(u64::from),
+            )?;
+        }
         ["le16", bytes, at] => {
             let bytes = bytes_of(rt.alloc(), bytes)?;
             print_number(

@@ -31,6 +31,7 @@ pub fn print(rt: &HostRuntime, words: &[&str]) -> anyhow::Result<bool> {
             None => return Ok(false),
         },
         ["escape", name] => {
+            laws::printed_names_differ();
             let text = escape(rt.alloc(), bytes_of(rt.alloc(), name)?.as_slice())?;
             println!(rt; "{}", String::from_utf8(text.into_vec())?)?;
         }
