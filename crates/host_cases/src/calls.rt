@@ -57,12 +57,7 @@ pub fn print_call(
 ) -> anyhow::Result<()> {
     let alloc = rt.alloc();
     let bounds = setting.take_bounds();
-    let file = if setting.is_held {
-        Some(setting.file.as_slice())
-    } else {
-        None
-    };
-    let given = call(alloc, row, setting.name.as_str(), file, &bounds)?;
+    let given = call(alloc, row, setting.name.as_str(), setting.held(), &bounds)?;
     print!(rt; "{row} = {} [", given.status)?;
     print_bytes(rt, given.out.bytes())?;
     print!(rt; "] [")?;

@@ -30,11 +30,7 @@ fn main(rt: HostRuntime) -> anyhow::Result<()> {
     Ok(())
 }
 
-fn answer(
-    rt: &(impl Print + AllocGlobal),
-    setting: &mut Setting,
-    row: &str,
-) -> anyhow::Result<()> {
+fn answer(rt: &(impl Print + AllocGlobal), setting: &mut Setting, row: &str) -> anyhow::Result<()> {
     let (kind, rest) = row.split_once(' ').unwrap_or((row, ""));
     match kind {
         "#" => println!(rt; "{row}")?,

@@ -69,6 +69,14 @@ impl Setting {
         }
     }
 
+    /// The file's bytes, where it is held.
+    pub fn held(&self) -> Option<&[u8]> {
+        if !self.is_held {
+            return None;
+        }
+        Some(self.file.as_slice())
+    }
+
     /// The bounds of the next call, which those after it don't have.
     pub fn take_bounds(&mut self) -> Bounds {
         let bounds = self.next;
