@@ -9,10 +9,7 @@ mod metadata;
 
 use headers::{print_bytes_at, print_headers, print_rest_at};
 use hexadecimal::{bytes_of, put_over};
-use metadata::{
-    print_blob, print_metadata, print_row, print_row_place, print_rows, print_string,
-    print_user_string,
-};
+use metadata::{Question, print_metadata, question_of};
 use std::alloc::Global;
 use std::io::{BufRead, BufReader};
 
@@ -86,34 +83,16 @@ fn ask_metadata(
     words: &[&str],
     line: &str,
 ) -> anyhow::Result<()> {
-    let file = &case.file;
-    let (at, size) = (case.at, case.size);
-    match *words {
-        ["metadata"] => print_metadata(rt, file, at, size)?,
-        ["metadata_with", place, bytes] => {
-            let file = patched(rt.alloc(), file, place, bytes)?;
-            print_metadata(rt, &file, at, size)?;
-        }
-        ["rows", table] => print_rows(rt, file, at, size, table_of(table)?)?,
-        ["row", table, n] => {
-            print_row(rt, file, at, size, table_of(table)?, n.parse::<u32>()?)?;
-        }
-        ["place", table, n] => {
-            print_row_place(rt, file, at, size, table_of(table)?, n.parse::<u32>()?)?;
-        }
-        ["string", offset] => print_string(rt, file, at, size, offset.parse::<u32>()?)?,
-        ["blob", offset] => print_blob(rt, file, at, size, offset.parse::<u32>()?)?,
-        ["user_string", offset] => {
-            print_user_string(rt, file, at, size, offset.parse::<u32>()?)?;
-        }
-        _ => println!(rt; "{line}")?,
+    if let ["metadata_with", place, bytes] = *words {
+        let file = patched(rt.alloc(), &case.file, place, bytes)?;
+        print_metadata(rt, &file, case.at, case.size, Question::Whether)?;
+        return Ok(());
+    }
+    match question_of(words)? {
+        Some(question) => print_metadata(rt, &case.file, case.at, case.size, question)?,
+        None => println!(rt; "{line}")?,
     }
     Ok(())
-}
-
-/// A table's number, in hexadecimal.
-fn table_of(word: &str) -> anyhow::Result<u8> {
-    Ok(u8::from_str_radix(word, 16)?)
 }
 
 /// A file with other bytes at a place.

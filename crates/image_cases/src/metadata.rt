@@ -1,139 +1,81 @@
 //! What is read of metadata, in a range of a file.
 
 use crate::hexadecimal::print_bytes;
-use bound_base::BadImage;
 use meta_tables::{Meta, read_meta};
-use std::alloc::Global;
 use std::io;
 
-/// Why there is nothing to ask: the range passes the file, or the metadata is refused.
-#[derive(Drop)]
-enum NoMeta {
-    Outside,
-    Bad(BadImage),
+/// What is asked of metadata: whether it is read, the rows of a table, a row and its place by table and number, or an entry
+/// by its offset in a heap.
+#[derive(Clone, Copy)]
+pub enum Question {
+    Whether,
+    Rows(u8),
+    Row(u8, u32),
+    Place(u8, u32),
+    Text(u32),
+    Blob(u32),
+    UserString(u32),
 }
 
-/// The metadata in a range of a file.
-fn meta_of(alloc: Global, file: &[u8], at: u64, size: u32) -> Result<Meta<'_>, NoMeta> {
-    let len = file.len() as u64;
-    if len < u64::from(size) || len - u64::from(size) < at {
-        return Err(NoMeta::Outside);
-    }
-    read_meta(alloc, file, at, size).map_err(NoMeta::Bad)
+/// The question of a line's words; None where they are none.
+pub fn question_of(words: &[&str]) -> anyhow::Result<Option<Question>> {
+    Ok(Some(match *words {
+        ["metadata"] => Question::Whether,
+        ["rows", table] => Question::Rows(table_of(table)?),
+        ["row", table, n] => Question::Row(table_of(table)?, n.parse::<u32>()?),
+        ["place", table, n] => Question::Place(table_of(table)?, n.parse::<u32>()?),
+        ["string", offset] => Question::Text(offset.parse::<u32>()?),
+        ["blob", offset] => Question::Blob(offset.parse::<u32>()?),
+        ["user_string", offset] => Question::UserString(offset.parse::<u32>()?),
+        _ => return Ok(None),
+    }))
 }
 
-fn print_no_meta(rt: &impl Print, no: &NoMeta) -> io::Result<()> {
-    match no {
-        NoMeta::Outside => println!(rt; "outside the file"),
-        NoMeta::Bad(bad) => println!(rt; "{bad}"),
-    }
+/// A table's number, in hexadecimal.
+fn table_of(word: &str) -> anyhow::Result<u8> {
+    Ok(u8::from_str_radix(word, 16)?)
 }
 
-/// Prints that the metadata is read, or the refusal.
+/// Prints the answer of the metadata in a range of a file, or why there is none.
 pub fn print_metadata(
     rt: &(impl Print + AllocGlobal),
     file: &[u8],
     at: u64,
     size: u32,
+    question: Question,
 ) -> io::Result<()> {
-    match meta_of(rt.alloc(), file, at, size) {
-        Ok(_) => println!(rt; "read"),
-        Err(no) => print_no_meta(rt, &no),
+    let len = file.len() as u64;
+    if len < u64::from(size) || len - u64::from(size) < at {
+        return println!(rt; "outside the file");
+    }
+    match read_meta(rt.alloc(), file, at, size) {
+        Ok(meta) => print_answer(rt, &meta, question),
+        Err(bad) => println!(rt; "{bad}"),
     }
 }
 
-/// Prints how many rows a table has.
-pub fn print_rows(
+fn print_answer(
     rt: &(impl Print + AllocGlobal),
-    file: &[u8],
-    at: u64,
-    size: u32,
-    table: u8,
+    meta: &Meta,
+    question: Question,
 ) -> io::Result<()> {
-    match meta_of(rt.alloc(), file, at, size) {
-        Ok(meta) => println!(rt; "rows {}", meta.rows(table)),
-        Err(no) => print_no_meta(rt, &no),
-    }
-}
-
-/// Prints the numbers of a row, or that there is none.
-pub fn print_row(
-    rt: &(impl Print + AllocGlobal),
-    file: &[u8],
-    at: u64,
-    size: u32,
-    table: u8,
-    n: u32,
-) -> io::Result<()> {
-    match meta_of(rt.alloc(), file, at, size) {
-        Ok(meta) => match meta.row(table, n) {
+    match question {
+        Question::Whether => println!(rt; "read"),
+        Question::Rows(table) => println!(rt; "rows {}", meta.rows(table)),
+        Question::Row(table, n) => match meta.row(table, n) {
             Some(row) => println!(rt; "row {row:?}"),
             None => println!(rt; "none"),
         },
-        Err(no) => print_no_meta(rt, &no),
-    }
-}
-
-/// Prints the file offset of a row, or that there is none.
-pub fn print_row_place(
-    rt: &(impl Print + AllocGlobal),
-    file: &[u8],
-    at: u64,
-    size: u32,
-    table: u8,
-    n: u32,
-) -> io::Result<()> {
-    match meta_of(rt.alloc(), file, at, size) {
-        Ok(meta) => match meta.row_place(table, n) {
+        Question::Place(table, n) => match meta.row_place(table, n) {
             Some(place) => println!(rt; "place {place}"),
             None => println!(rt; "none"),
         },
-        Err(no) => print_no_meta(rt, &no),
-    }
-}
-
-/// Prints the text at an offset of `#Strings`, or that there is none.
-pub fn print_string(
-    rt: &(impl Print + AllocGlobal),
-    file: &[u8],
-    at: u64,
-    size: u32,
-    offset: u32,
-) -> io::Result<()> {
-    match meta_of(rt.alloc(), file, at, size) {
-        Ok(meta) => print_bytes(rt, meta.string(offset)),
-        Err(no) => print_no_meta(rt, &no),
-    }
-}
-
-/// Prints the bytes of the entry at an offset of `#Blob`, or that there is none.
-pub fn print_blob(
-    rt: &(impl Print + AllocGlobal),
-    file: &[u8],
-    at: u64,
-    size: u32,
-    offset: u32,
-) -> io::Result<()> {
-    match meta_of(rt.alloc(), file, at, size) {
-        Ok(meta) => print_bytes(rt, meta.blob(offset)),
-        Err(no) => print_no_meta(rt, &no),
-    }
-}
-
-/// Prints the units of the entry at an offset of `#US`, or that there is none.
-pub fn print_user_string(
-    rt: &(impl Print + AllocGlobal),
-    file: &[u8],
-    at: u64,
-    size: u32,
-    offset: u32,
-) -> io::Result<()> {
-    match meta_of(rt.alloc(), file, at, size) {
-        Ok(meta) => match meta.user_string(rt.alloc(), offset) {
+        Question::Text(offset) => print_bytes(rt, meta.string(offset)),
+        Question::Blob(offset) => print_bytes(rt, meta.blob(offset)),
+        Question::UserString(offset) => match meta.user_string(rt.alloc(), offset) {
             Ok(Some(units)) => println!(rt; "units {:?}", units.as_slice()),
             Ok(None) => println!(rt; "none"),
             Err(_) => println!(rt; "out of memory"),
         },
-        Err(no) => print_no_meta(rt, &no),
     }
 }
