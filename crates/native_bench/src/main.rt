@@ -1,9 +1,9 @@
-//! What checks and timings run of the native crates. Without words it reads instruction words; else the first word says
-//! what it does. It prints results alone, the same at each call: `bench/native` measures how long it takes.
+//! What checks and timings run of the native crates. Without words it reads cases; else the first word says what it does. It
+//! prints results alone, the same at each call: `bench/native` measures how long it takes.
 #![tactic(auto)]
 
 mod blocks;
-mod instruction_words;
+mod cases;
 mod reads;
 mod rights;
 mod steps;
@@ -15,18 +15,21 @@ use std::env;
 fn main(rt: HostRuntime) -> anyhow::Result<()> {
     let mut words = env::args(&rt)?.skip(1);
     let Some(mode) = words.next() else {
-        return Ok(instruction_words::print_all(&rt)?);
+        return cases::print_all(&rt);
     };
     match mode.as_str() {
         "steps" => steps::print(&rt),
-        "reads" => reads::print(&rt, number(words.next())?, number(words.next())?),
+        "reads" => reads::print(&rt, number_in(words.next())?, number_in(words.next())?),
         "blocks" => blocks::print(&rt, order(words.next())?),
         _ => bail!("no such mode"),
     }
 }
 
-fn number(word: Option<String>) -> anyhow::Result<u64> {
-    let word = word.context("a number is missing")?;
+fn number_in(word: Option<String>) -> anyhow::Result<u64> {
+    number(word.context("a number is missing")?.as_str())
+}
+
+fn number(word: &str) -> anyhow::Result<u64> {
     Ok(word.parse::<u64>()?)
 }
 

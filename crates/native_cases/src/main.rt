@@ -7,7 +7,6 @@
 mod heap_rows;
 mod in_place_rows;
 mod machine_rows;
-mod many_blocks;
 mod memory_rows;
 mod words;
 
@@ -21,28 +20,27 @@ fn main(rt: HostRuntime) -> anyhow::Result<()> {
         let line = line?;
         let words: Vec<&str> = line.split_whitespace().collect(rt.alloc())?;
         print!(rt; "{line}")?;
-        answer(&rt, &mut memory, &words)?;
+        let _ = answer(&rt, &mut memory, &words)?;
         println!(rt; "")?;
     }
     Ok(())
 }
 
-/// Prints what a call answers, and nothing where the verb is none. The memory stays from line to line.
+/// Prints what a call answers, and tells whether the line has one of the verbs. The memory stays from line to line.
 fn answer(
     rt: &(impl Print + AllocGlobal),
     memory: &mut Memory,
     words: &[&str],
-) -> anyhow::Result<()> {
+) -> anyhow::Result<bool> {
     if let ["memory", limit] = *words {
         *memory = Memory::new(rt.alloc(), number(limit)?);
-        return Ok(());
+        return Ok(true);
     }
-    let done = memory_rows::change(rt, memory, words)?
-        || memory_rows::look(rt, memory, words)?
-        || in_place_rows::answer(rt, memory, words)?
-        || heap_rows::answer(rt, memory, words)?
-        || machine_rows::answer(rt, memory, words)?
-        || many_blocks::answer(rt, words)?;
-    let _ = done;
-    Ok(())
+    Ok(
+        memory_rows::change(rt, memory, words)?
+            || memory_rows::look(rt, memory, words)?
+            || in_place_rows::answer(rt, memory, words)?
+            || heap_rows::answer(rt, memory, words)?
+            || machine_rows::answer(rt, memory, words)?,
+    )
 }

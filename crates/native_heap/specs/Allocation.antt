@@ -1,7 +1,7 @@
--- Memory management (ISO/IEC 9899 7.22.3), on whole blocks. Where that standard leaves room: a block
--- of no bytes is one like others, with a base of its own; a new block holds zeros; `realloc` always
--- moves, places the new block before the old one ends, and takes 0 for a size like others; `free`,
--- which answers nothing, leaves a0 as it was.
+-- Memory management (ISO/IEC 9899 7.22.3), on whole blocks. Where that standard leaves room: a
+-- block of no bytes is one like others, with a base of its own; a new block holds zeros; `realloc`
+-- always moves, places the new block before the old one ends, and takes 0 for a size like others;
+-- `free`, which answers nothing, leaves a0 as it was.
 use Rattle.std.specs.Prelude.{ℕ, ◌*◌, ◌^◌, nat_lt, Bool, false, List, take}
 use Rattle.std.specs.Prelude.{Option, Some, None, is_some, if◌then◌else◌, ◌==◌}
 use Rattle.native_memory.specs.declared.kind.Kind.TheVariants.{Heap}

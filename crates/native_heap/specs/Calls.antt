@@ -2,7 +2,12 @@
 use Rattle.std.specs.Prelude.{ℕ, Bool, false, List, slice_get, slice_index, slice_set}
 use Rattle.std.specs.Prelude.{Option, Some, None, is_some, option_map, unwrap_or}
 use Rattle.host_functions.specs.declared.functions.HostFunction.{HostFunction}
-use Rattle.host_functions.specs.declared.functions.HostFunction.TheVariants.{Malloc, Calloc, Realloc, Free, Memcpy, Memmove, Memset, Memcmp, Strlen, Strcmp, Strcpy, ErrnoLocation, Abort}
+use Rattle.host_functions.specs.declared.functions.HostFunction.TheVariants.{Malloc, Calloc}
+use Rattle.host_functions.specs.declared.functions.HostFunction.TheVariants.{Realloc, Free, Memcpy}
+use Rattle.host_functions.specs.declared.functions.HostFunction.TheVariants.{Memmove, Memset}
+use Rattle.host_functions.specs.declared.functions.HostFunction.TheVariants.{Memcmp, Strlen, Strcmp}
+use Rattle.host_functions.specs.declared.functions.HostFunction.TheVariants.{Strcpy, ErrnoLocation}
+use Rattle.host_functions.specs.declared.functions.HostFunction.TheVariants.{Abort}
 use Rattle.host_functions.specs.HostFunctions.{host_functions}
 use Rattle.native_memory.specs.AddressSpace.{AddressSpace}
 use Rattle.native_heap.specs.Outcome.{Outcome, ◌>>=◌}
@@ -38,10 +43,12 @@ done_for function x space errno =
     outcome function (slice_index x 10) (slice_index x 11) (slice_index x 12) space errno
 
 -- A call of the host function of a number (RISC-V psABI, Integer Calling Convention): its arguments
--- stand in a0, a1 and a2, and its answer goes to a0. All other registers stay. None where it faults.
+-- stand in a0, a1 and a2, and its answer goes to a0. All other registers stay. None where it
+-- faults.
 unfoldable pub called : ℕ → List ℕ → AddressSpace → ℕ → Option (List ℕ × AddressSpace)
 called k x space errno =
-    slice_get host_functions k >>= λ function. option_map (returned x) (done_for function x space errno)
+    slice_get host_functions k
+    >>= λ function. option_map (returned x) (done_for function x space errno)
 
 -- whether a host function may find memory wanting: one that places a block where there is room for
 -- it, and one that copies where it doesn't fault; the others take no memory
@@ -67,4 +74,5 @@ takes_for function x space =
 -- the same of a call
 abbrev pub wants_memory : ℕ → List ℕ → AddressSpace → Bool
 wants_memory k x space =
-    unwrap_or (option_map (λ function. takes_for function x space) (slice_get host_functions k)) false
+    let takes = option_map (λ function. takes_for function x space) (slice_get host_functions k) in
+    unwrap_or takes false

@@ -1,6 +1,6 @@
 -- Texts that end with a zero (ISO/IEC 9899 7.24). A text stands in one block. Where that standard
--- leaves room: `strcpy` copies as `memmove` does, also where the text and the copy overlap; `strcmp`
--- answers -1, 0 or 1, as a word of 64 bits, and asks for no byte after those that decide.
+-- leaves room: `strcpy` copies as `memmove` does, also where the text and the copy overlap;
+-- `strcmp` answers -1, 0 or 1, as a word of 64 bits, and asks for no byte after those that decide.
 use Rattle.std.specs.Prelude.{ℕ, ◌+◌, ◌-◌, Bool, List, [], ◌∷◌, ◌++◌, length, take, drop}
 use Rattle.std.specs.Prelude.{Option, Some, None, option_map, if◌then◌else◌, ◌==◌}
 use Rattle.std.specs.List.{position}
@@ -31,7 +31,8 @@ unfoldable pub strcpy : AddressSpace → ℕ → ℕ → Outcome
 strcpy space to from =
     text_at space from >>= λ text. answering to (written_at space to (text ++ 0 ∷ []))
 
--- the bytes of a block from one of its addresses on, and more after them; none where it can't be read
+-- the bytes of a block from one of its addresses on, and more after them; none where it can't be
+-- read
 abbrev pub then_more : Option (List ℕ) → ℕ → List ℕ → List ℕ
 then_more (Some bytes) at more = drop at bytes ++ more
 then_more None at more = []

@@ -4,7 +4,8 @@ use Rattle.std.specs.declared.vec.Vec.{Vec}
 use Rattle.std.specs.List.{sum_by, count_by}
 use Rattle.bound_base.specs.declared.limits.Rights.{Rights}
 use Rattle.native_memory.specs.declared.kind.Kind.{Kind}
-use Rattle.native_memory.specs.declared.kind.Kind.TheVariants.{Segment, Stack, Errno, Heap, Temp, InPlace}
+use Rattle.native_memory.specs.declared.kind.Kind.TheVariants.{Segment, Stack, Errno, Heap, Temp}
+use Rattle.native_memory.specs.declared.kind.Kind.TheVariants.{InPlace}
 
 -- contents as a list
 abbrev pub listed : {Z : Type 0} → Option (Vec ℕ Z) → Option (List ℕ)

@@ -1,9 +1,12 @@
 -- Placing blocks and ending them.
-use Rattle.std.specs.Prelude.{◌≡◌, ℕ, ◌+◌, ◌-◌, ◌*◌, ◌/◌, ◌^◌, max, nat_le, Bool, true, false, ◌&&◌, not, List, [], ◌∷◌, ◌++◌, length, replicate, Option, Some, None, IsSome, option_map, option_and_then, if◌then◌else◌, ◌==◌}
+use Rattle.std.specs.Prelude.{◌≡◌, ℕ, ◌+◌, ◌-◌, ◌*◌, ◌/◌, ◌^◌, max, nat_le, Bool, true, false, ◌&&◌}
+use Rattle.std.specs.Prelude.{not, List, [], ◌∷◌, ◌++◌, length, replicate, Option, Some, None}
+use Rattle.std.specs.Prelude.{IsSome, option_map, option_and_then, if◌then◌else◌, ◌==◌}
 use Rattle.std.specs.List.{filter, find}
 use Rattle.bound_base.specs.declared.limits.Rights.{Rights}
 use Rattle.native_memory.specs.declared.kind.Kind.{Kind}
-use Rattle.native_memory.specs.declared.kind.Kind.TheVariants.{Segment, Stack, Errno, Heap, Temp, InPlace}
+use Rattle.native_memory.specs.declared.kind.Kind.TheVariants.{Segment, Stack, Errno, Heap, Temp}
+use Rattle.native_memory.specs.declared.kind.Kind.TheVariants.{InPlace}
 use Rattle.native_memory.specs.declared.faults.PlaceBad.{PlaceBad}
 use Rattle.native_memory.specs.declared.faults.PlaceBad.TheVariants.{Room, Memory}
 use Rattle.native_memory.specs.AddressSpace.{Block, AddressSpace, block_of, live_bytes, is_heap}
@@ -22,7 +25,8 @@ has_room space size next = nat_le (live_bytes space + size) space.limit && nat_l
 
 -- with one more block behind the others
 abbrev pub with_behind : AddressSpace → Block → ℕ → AddressSpace
-with_behind space block next = record space { next = next; edge = edge_of block; blocks = space.blocks ++ block ∷ [] }
+with_behind space block next =
+    record space { next = next; edge = edge_of block; blocks = space.blocks ++ block ∷ [] }
 
 -- the same where there is room for it
 abbrev pub with_block : AddressSpace → Block → ℕ → Option AddressSpace
@@ -40,7 +44,8 @@ new_contents size Errno = Some (replicate size 0)
 new_contents size Heap = Some (replicate size 0)
 new_contents size Temp = Some (replicate size 0)
 
--- a block at the next address, which moves on by the block's size in whole sixteens and one sixteen more; None without room
+-- a block at the next address, which moves on by the block's size in whole sixteens and one sixteen
+-- more; None without room
 unfoldable pub placed : AddressSpace → ℕ → Rights → Kind → Option AddressSpace
 placed space size rights kind =
     with_block space (block_of space.next size rights kind (new_contents size kind))
@@ -50,8 +55,8 @@ placed space size rights kind =
 abbrev pub filled_up : List ℕ → ℕ → List ℕ
 filled_up bytes size = bytes ++ replicate (size - length bytes) 0
 
--- a segment elsewhere, filled up with zeros; the next address is the multiple of 16 that isn't below its end, and 16 on; None
--- without room
+-- a segment elsewhere, filled up with zeros; the next address is the multiple of 16 that isn't
+-- below its end, and 16 on; None without room
 unfoldable pub placed_at : AddressSpace → ℕ → List ℕ → ℕ → Rights → Option AddressSpace
 placed_at space base bytes size rights =
     with_block space (block_of base size rights Segment (Some (filled_up bytes size)))
@@ -80,7 +85,9 @@ described block = (block.size, block.rights, block.kind)
 
 -- without the block with a base; None where no live block has it
 unfoldable pub ended : AddressSpace → ℕ → Option AddressSpace
-ended space base = option_map (λ _. record space { blocks = filter (λ block. not (stands_at base block)) space.blocks }) (block_with space base)
+ended space base =
+    option_map (λ _. record space { blocks = filter (λ block. not (stands_at base block)) space.blocks })
+    (block_with space base)
 
 -- the address lies in the block
 abbrev pub holds_address : ℕ → Block → Bool
@@ -94,8 +101,8 @@ base_of space addr = option_map (λ block. block.base) (find (holds_address addr
 abbrev pub within_top : ℕ → Option ℕ
 within_top next = if nat_le next (2 ^ 46) then Some next else None
 
--- By the answer of a call that makes a change where there is one to make: it made that one, or there is none and all is as
--- it was.
+-- By the answer of a call that makes a change where there is one to make: it made that one, or
+-- there is none and all is as it was.
 abbrev pub Does : Bool → Option AddressSpace → AddressSpace → AddressSpace → Type 0
 Does true change old new = change ≡ Some new
 Does false change old new = (change ≡ None) × (new ≡ old)

@@ -1,5 +1,7 @@
 -- Reading and writing ranges of addresses.
-use Rattle.std.specs.Prelude.{ℕ, ◌+◌, ◌-◌, ◌^◌, min, nat_le, Bool, ◌&&◌, List, [], ◌++◌, length, take, drop, map, Option, Some, None, is_some, option_map, option_and_then, if◌then◌else◌, ◌==◌}
+use Rattle.std.specs.Prelude.{ℕ, ◌+◌, ◌-◌, ◌^◌, min, nat_le, Bool, ◌&&◌, List, [], ◌++◌, length}
+use Rattle.std.specs.Prelude.{take, drop, map, Option, Some, None, is_some, option_map}
+use Rattle.std.specs.Prelude.{option_and_then, if◌then◌else◌, ◌==◌}
 use Rattle.std.specs.List.{find}
 use Rattle.byteorder.specs.Endian.{little_number}
 use Rattle.bound_base.specs.declared.limits.Rights.{Rights}
@@ -29,15 +31,20 @@ open_bytes right block = if right block.rights then block.contents else None
 abbrev pub part : ℕ → ℕ → Block → List ℕ → List ℕ
 part addr len block bytes = take len (drop (addr - block.base) bytes)
 
--- the bytes of a range that one live block with the right covers; a range of no bytes is there everywhere
+-- the bytes of a range that one live block with the right covers; a range of no bytes is there
+-- everywhere
 unfoldable pub bytes_at : (Rights → Bool) → AddressSpace → ℕ → ℕ → Option (List ℕ)
 bytes_at right space addr len =
     if len == 0 then Some []
-    else option_and_then (λ block. option_map (part addr len block) (open_bytes right block)) (find (covers addr len) space.blocks)
+    else
+    option_and_then (λ block. option_map (part addr len block) (open_bytes right block))
+    (find (covers addr len) space.blocks)
 
 -- the bytes from an address to the end of the live block in which it lies, where that may be read
 unfoldable pub rest_at : AddressSpace → ℕ → Option (List ℕ)
-rest_at space addr = option_and_then (λ block. option_map (drop (addr - block.base)) (open_bytes may_read block)) (find (covers addr 1) space.blocks)
+rest_at space addr =
+    option_and_then (λ block. option_map (drop (addr - block.base)) (open_bytes may_read block))
+    (find (covers addr 1) space.blocks)
 
 -- the word of four bytes that stands at an address and may be executed
 abbrev pub word_at : AddressSpace → ℕ → Option ℕ
@@ -49,13 +56,17 @@ overwritten bytes at from = take at bytes ++ from ++ drop (at + length from) byt
 
 -- a block with bytes written from one of its addresses on
 abbrev pub write_in : ℕ → List ℕ → Block → Block
-write_in addr from block = record block { contents = option_map (λ bytes. overwritten bytes (addr - block.base) from) block.contents }
+write_in addr from block =
+    record block {
+      contents = option_map (λ bytes. overwritten bytes (addr - block.base) from) block.contents;
+    }
 
 -- a count of written bytes after so many more: it stays at 2^64 - 1 once there
 abbrev pub counted : ℕ → ℕ → ℕ
 counted written len = min (written + len) (2 ^ 64 - 1)
 
--- after a write that doesn't fault: the block that covers the range has the bytes there, and all else is as it was
+-- after a write that doesn't fault: the block that covers the range has the bytes there, and all
+-- else is as it was
 abbrev pub with_written : AddressSpace → ℕ → List ℕ → AddressSpace
 with_written space addr from =
     record space {
@@ -66,7 +77,9 @@ with_written space addr from =
 unfoldable pub written_at : AddressSpace → ℕ → List ℕ → Option AddressSpace
 written_at space addr from =
     if length from == 0 then Some space
-    else if is_some (bytes_at may_write space addr (length from)) then Some (with_written space addr from) else None
+    else if is_some (bytes_at may_write space addr (length from))
+    then Some (with_written space addr from)
+    else None
 
 -- the right that an access asks for
 abbrev pub right_of : Access → Rights → Bool

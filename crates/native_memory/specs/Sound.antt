@@ -18,7 +18,8 @@ abbrev pub LieBetween : ℕ → List Block → ℕ → Type 0
 LieBetween from [] end = from ≤ end
 LieBetween from (block ∷ rest) end = (from ≤ block.base) × LieBetween (edge_of block) rest end
 
--- the blocks lie one after another between the lowest address and the next, and the live bytes are within the limit
+-- the blocks lie one after another between the lowest address and the next, and the live bytes are
+-- within the limit
 pub record IsSound (space : AddressSpace) : Type 0 where
   pub apart : LieBetween lowest space.blocks space.edge
   pub whole : All IsWhole space.blocks

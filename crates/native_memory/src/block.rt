@@ -4,7 +4,8 @@ ghost use Rattle.std.specs.Prelude.{◌≡◌, ◌+◌, ◌-◌, ◌≤◌, true
 ghost use Rattle.std.specs.Prelude.{IfOk, IfSome, None, if◌then◌else◌};
 ghost use Rattle.std.specs.Option.{option_copied};
 ghost use Rattle.native_memory.specs.AddressSpace.{is_heap, listed, block_of};
-ghost use Rattle.native_memory.specs.Ranges.{covers, may_read, right_of, open_bytes, part, overwritten, write_in};
+ghost use Rattle.native_memory.specs.Ranges.{covers, may_read, right_of, open_bytes, part};
+ghost use Rattle.native_memory.specs.Ranges.{overwritten, write_in};
 ghost use Rattle.native_memory.specs.InPlace.{is_in_place, is_here};
 ghost use Rattle.native_memory.specs.Sound.{IsWhole};
 

@@ -5,11 +5,13 @@ ghost use Rattle.std.specs.Prelude.{Some, None, IfOk, IfErr, OnOk, OnErr, OnSome
 ghost use Rattle.std.specs.Prelude.{MatchOption, option_map, if◌then◌else◌, true, false};
 ghost use Rattle.std.specs.Option.{option_copied};
 ghost use Rattle.bound_base.specs.declared.limits.Rights.{Rights};
-ghost use Rattle.native_memory.specs.AddressSpace.{empty, live_bytes, heap_blocks, listed, block_of};
+ghost use Rattle.native_memory.specs.AddressSpace.{empty, live_bytes, heap_blocks, listed};
+ghost use Rattle.native_memory.specs.AddressSpace.{block_of};
 ghost use Rattle.native_memory.specs.Ranges.{covers, may_read, right_of, right_to};
 ghost use Rattle.native_memory.specs.Ranges.{bytes_at, rest_at, word_at, written_at, counted};
 ghost use Rattle.native_memory.specs.Placement.{placed, placed_at, ended, Does, FailsToPlace};
-ghost use Rattle.native_memory.specs.Placement.{base_of, block_with, heap_contents, described, stands_at};
+ghost use Rattle.native_memory.specs.Placement.{base_of, block_with, heap_contents, described};
+ghost use Rattle.native_memory.specs.Placement.{stands_at};
 ghost use Rattle.native_memory.specs.Placement.{has_room, with_behind};
 ghost use Rattle.native_memory.specs.InPlace.{adopted, lent_at, taken_back, are_all_here};
 ghost use Rattle.native_memory.specs.InPlace.{is_in_place_at, waits_at};

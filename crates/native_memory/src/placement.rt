@@ -1,6 +1,7 @@
 //! Where the next block stands, and what a new block holds.
 
-ghost use Rattle.std.specs.Prelude.{◌≡◌, ◌+◌, ◌-◌, ◌*◌, ◌/◌, ◌^◌, ◌<◌, ◌≤◌, length, replicate, IfOk};
+ghost use Rattle.std.specs.Prelude.{◌≡◌, ◌+◌, ◌-◌, ◌*◌, ◌/◌, ◌^◌, ◌<◌, ◌≤◌, length, replicate};
+ghost use Rattle.std.specs.Prelude.{IfOk};
 ghost use Rattle.native_memory.specs.AddressSpace.{listed};
 ghost use Rattle.native_memory.specs.Placement.{up_to_16, within_top, new_contents, filled_up};
 

@@ -1,12 +1,24 @@
 -- What each instruction does, by the pc and the registers before it (RISC-V unprivileged ISA,
 -- RV32I Base Integer Instruction Set, RV64I Base Integer Instruction Set, M Extension).
-use Rattle.std.specs.Prelude.{ℕ, ◌*◌, ◌/◌, ◌%◌, ◌^◌, not, true, false, ◌==◌, nat_lt, bit_and, bit_or, bit_xor, ℤ, pos, ◌+ℤ◌, ◌-ℤ◌, ◌*ℤ◌, int_lt}
+use Rattle.std.specs.Prelude.{ℕ, ◌*◌, ◌/◌, ◌%◌, ◌^◌, not, true, false, ◌==◌, nat_lt, bit_and}
+use Rattle.std.specs.Prelude.{bit_or, bit_xor, ℤ, pos, ◌+ℤ◌, ◌-ℤ◌, ◌*ℤ◌, int_lt}
 use Rattle.rv_decode.specs.declared.instr.Instr.{Instr}
-use Rattle.rv_decode.specs.declared.instr.Instr.TheVariants.{Lui, Auipc, Jal, Jalr, Beq, Bne, Blt, Bge, Bltu, Bgeu, Lb, Lh, Lw, Ld, Lbu, Lhu, Lwu, Sb, Sh, Sw, Sd, Addi, Slti, Sltiu, Xori, Ori, Andi, Slli, Srli, Srai, Add, Sub, Sll, Slt, Sltu, Xor, Srl, Sra, Or, And, Addiw, Slliw, Srliw, Sraiw, Addw, Subw, Sllw, Srlw, Sraw, Fence, Ecall, Ebreak, Mul, Mulh, Mulhsu, Mulhu, Div, Divu, Rem, Remu, Mulw, Divw, Divuw, Remw, Remuw}
+use Rattle.rv_decode.specs.declared.instr.Instr.TheVariants.{Lui, Auipc, Jal, Jalr, Beq, Bne, Blt}
+use Rattle.rv_decode.specs.declared.instr.Instr.TheVariants.{Bge, Bltu, Bgeu, Lb, Lh, Lw, Ld, Lbu}
+use Rattle.rv_decode.specs.declared.instr.Instr.TheVariants.{Lhu, Lwu, Sb, Sh, Sw, Sd, Addi, Slti}
+use Rattle.rv_decode.specs.declared.instr.Instr.TheVariants.{Sltiu, Xori, Ori, Andi, Slli, Srli}
+use Rattle.rv_decode.specs.declared.instr.Instr.TheVariants.{Srai, Add, Sub, Sll, Slt, Sltu, Xor}
+use Rattle.rv_decode.specs.declared.instr.Instr.TheVariants.{Srl, Sra, Or, And, Addiw, Slliw, Srliw}
+use Rattle.rv_decode.specs.declared.instr.Instr.TheVariants.{Sraiw, Addw, Subw, Sllw, Srlw, Sraw}
+use Rattle.rv_decode.specs.declared.instr.Instr.TheVariants.{Fence, Ecall, Ebreak, Mul, Mulh}
+use Rattle.rv_decode.specs.declared.instr.Instr.TheVariants.{Mulhsu, Mulhu, Div, Divu, Rem, Remu}
+use Rattle.rv_decode.specs.declared.instr.Instr.TheVariants.{Mulw, Divw, Divuw, Remw, Remuw}
 use Rattle.rv_machine.specs.declared.effect.Effect.{Effect}
-use Rattle.rv_machine.specs.declared.effect.Effect.TheVariants.{Set, Jump, Branch, Load, Store, Nothing, Trap}
+use Rattle.rv_machine.specs.declared.effect.Effect.TheVariants.{Set, Jump, Branch, Load, Store}
+use Rattle.rv_machine.specs.declared.effect.Effect.TheVariants.{Nothing, Trap}
 use Rattle.rv_machine.specs.declared.effect.Width.TheVariants.{Byte, Half, Word, Double}
-use Rattle.rv_machine.specs.Words.{word, word32, signed, signed32, unsigned32, flag, shifted_right, quotient, remainder}
+use Rattle.rv_machine.specs.Words.{word, word32, signed, signed32, unsigned32, flag, shifted_right}
+use Rattle.rv_machine.specs.Words.{quotient, remainder}
 
 -- the immediate of LUI and AUIPC is the upper part of 32 bits
 abbrev pub upper : ℤ → ℤ

@@ -22,7 +22,8 @@ with_x0 s value = record s { x = slice_set s.x 0 value }
 -- leaves them
 abbrev pub ZeroRegisterIsFree : Type 0
 ZeroRegisterIsFree =
-    (s : State) (value : ℕ) → rv_step (with_x0 s value) ≡ ((rv_step s).0, with_x0 (rv_step s).1 value)
+    (s : State) (value : ℕ)
+    → rv_step (with_x0 s value) ≡ ((rv_step s).0, with_x0 (rv_step s).1 value)
 
 -- one write of 1, 2, 4 or 8 bytes
 pub record Writes (old new : AddressSpace) : Type 0 where
@@ -70,8 +71,8 @@ StopsBelowLowest = (s : State) → StopsAt s
 abbrev pub HalvesMakeProducts : Type 0
 HalvesMakeProducts = (z : ℤ) → shifted_right z 64 *ℤ pos (2 ^ 64) +ℤ pos (word z) ≡ z
 
--- A quotient and its remainder make the dividend. The remainder is nearer to 0 than the divisor, where
--- that isn't 0, and has the dividend's sign, so the quotient is rounded toward zero.
+-- A quotient and its remainder make the dividend. The remainder is nearer to 0 than the divisor,
+-- where that isn't 0, and has the dividend's sign, so the quotient is rounded toward zero.
 pub record Divides (z d : ℤ) : Type 0 where
   pub dividend : quotient z d *ℤ d +ℤ remainder z d ≡ z
   pub rest : d ≢ pos 0 → unsigned_abs (remainder z d) < unsigned_abs d
@@ -97,7 +98,8 @@ pub record HasDivisionEdges32 (x : ℕ) : Type 0 where
   pub divuw_by_zero : word32 (quotient (unsigned32 x) (unsigned32 0)) ≡ 2 ^ 64 - 1
   pub remw_by_zero : word32 (remainder (signed32 x) (signed32 0)) ≡ word32 (pos x)
   pub remuw_by_zero : word32 (remainder (unsigned32 x) (unsigned32 0)) ≡ word32 (pos x)
-  pub divw_overflow : word32 (quotient (signed32 (2 ^ 31)) (signed32 (2 ^ 32 - 1))) ≡ word32 (pos (2 ^ 31))
+  pub divw_overflow :
+      word32 (quotient (signed32 (2 ^ 31)) (signed32 (2 ^ 32 - 1))) ≡ word32 (pos (2 ^ 31))
   pub remw_overflow : word32 (remainder (signed32 (2 ^ 31)) (signed32 (2 ^ 32 - 1))) ≡ 0
 
 abbrev pub DivisionHasEdges : Type 0

@@ -9,7 +9,8 @@ use Rattle.rv_decode.specs.declared.instr.Instr.{Instr}
 use Rattle.rv_decode.specs.Decoding.{decoded}
 use Rattle.rv_decode.specs.Lengths.{length_of}
 use Rattle.rv_machine.specs.declared.effect.Effect.{Effect}
-use Rattle.rv_machine.specs.declared.effect.Effect.TheVariants.{Set, Jump, Branch, Load, Store, Nothing, Trap}
+use Rattle.rv_machine.specs.declared.effect.Effect.TheVariants.{Set, Jump, Branch, Load, Store}
+use Rattle.rv_machine.specs.declared.effect.Effect.TheVariants.{Nothing, Trap}
 use Rattle.rv_machine.specs.declared.effect.Width.{Width}
 use Rattle.rv_machine.specs.declared.effect.Width.TheVariants.{Byte, Half, Word, Double}
 use Rattle.rv_machine.specs.declared.outcome.Step.{Step}
@@ -81,14 +82,16 @@ applied s len (Branch taken target) =
     if taken then jumped s s.x target else (Went, record s { pc = next_pc s.pc len })
 applied s len (Load d addr width signed) =
     let size = byte_len (size_of width) in
-    loaded s len d addr size (option_map (extended_from width signed) (number_at s.memory addr size))
+    let value = option_map (extended_from width signed) (number_at s.memory addr size) in
+    loaded s len d addr size value
 applied s len (Store addr width value) =
     let size = byte_len (size_of width) in
     stored s len addr size (written_at s.memory addr (little_bytes size value))
 applied s len Nothing = (Went, record s { pc = next_pc s.pc len })
 applied s len Trap = (no_instruction s.pc, s)
 
--- the effect of the instruction at pc, which takes `len` bytes; a word that no instruction has faults
+-- the effect of the instruction at pc, which takes `len` bytes; a word that no instruction has
+-- faults
 abbrev pub performed : State → ℕ → Option Instr → Step × State
 performed s len (Some instr) = applied s len (effect instr s.pc (register s.x))
 performed s len None = (no_instruction s.pc, s)
@@ -98,8 +101,8 @@ abbrev pub fetched : State → Option ℕ → Step × State
 fetched s (Some code) = performed s (length_of code) (decoded code)
 fetched s None = (no_instruction s.pc, s)
 
--- One step: what it comes to, and the state after it. No instruction stands below the lowest address
--- of a block.
+-- One step: what it comes to, and the state after it. No instruction stands below the lowest
+-- address of a block.
 unfoldable pub rv_step : State → Step × State
 rv_step s =
     if nat_lt s.pc lowest then (At s.pc, s) else fetched s (word_at s.memory s.pc)

@@ -1,5 +1,6 @@
 -- The words of a register as numbers (RISC-V unprivileged ISA, RV64I and M).
-use Rattle.std.specs.Prelude.{ℕ, ◌%◌, ◌^◌, Bool, ℤ, pos, negsuc, unsigned_abs, int_div, int_rem, if◌then◌else◌}
+use Rattle.std.specs.Prelude.{ℕ, ◌%◌, ◌^◌, Bool, ℤ, pos, negsuc, unsigned_abs, int_div, int_rem}
+use Rattle.std.specs.Prelude.{if◌then◌else◌}
 use Rattle.std.specs.Int.{w32, w64, cast_signed, int_rem_euclid, int_div_euclid}
 use Rattle.std.specs.Ordering.{int_eq}
 

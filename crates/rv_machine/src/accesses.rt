@@ -1,7 +1,8 @@
 //! Loads and stores (RISC-V unprivileged ISA, Load and Store Instructions). An address may be any: misaligned accesses
 //! work, and read or write the same bytes.
 
-ghost use Rattle.std.specs.Prelude.{◌≡◌, option_map, IfOk, IfErr, OnErr, OnOk, Some, None, false, true};
+ghost use Rattle.std.specs.Prelude.{◌≡◌, option_map, IfOk, IfErr, OnErr, OnOk, Some, None, false};
+ghost use Rattle.std.specs.Prelude.{true};
 ghost use Rattle.std.specs.Int.{byte_len};
 ghost use Rattle.byteorder.specs.Endian.{little_bytes};
 ghost use Rattle.native_memory.specs.Ranges.{written_at};

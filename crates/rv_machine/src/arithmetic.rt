@@ -1,7 +1,8 @@
 //! Sums, shifts and comparisons (RISC-V unprivileged ISA, RV32I and RV64I, Integer Computational Instructions).
 
 ghost use Rattle.std.specs.Prelude.{◌≡◌, ◌%◌, ◌*◌, ◌^◌, pos, ◌+ℤ◌, ◌-ℤ◌, int_lt};
-ghost use Rattle.rv_machine.specs.Words.{word, word32, signed, signed32, unsigned32, flag, shifted_right};
+ghost use Rattle.rv_machine.specs.Words.{word, word32, signed, signed32, unsigned32, flag};
+ghost use Rattle.rv_machine.specs.Words.{shifted_right};
 
 use crate::words::{extended, extended32, low32};
 

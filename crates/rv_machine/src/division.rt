@@ -1,7 +1,8 @@
 //! Quotients and remainders (RISC-V unprivileged ISA, M extension, Division Operations).
 
 ghost use Rattle.std.specs.Prelude.{◌≡◌, pos};
-ghost use Rattle.rv_machine.specs.Words.{word, word32, signed, signed32, unsigned32, quotient, remainder};
+ghost use Rattle.rv_machine.specs.Words.{word, word32, signed, signed32, unsigned32, quotient};
+ghost use Rattle.rv_machine.specs.Words.{remainder};
 
 use crate::words::{extended, extended32, low32};
 
