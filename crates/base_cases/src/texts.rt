@@ -30,33 +30,39 @@ pub fn print(rt: &HostRuntime, words: &[&str]) -> anyhow::Result<bool> {
             Some(ending) => println!(rt; "{}", status_of(&ending))?,
             None => return Ok(false),
         },
-        ["escape", name] => {
-            laws::printed_names_differ();
-            let text = escape(rt.alloc(), bytes_of(rt.alloc(), name)?.as_slice())?;
-            println!(rt; "{}", String::from_utf8(text.into_vec())?)?;
-        }
+        ["escape", name] => print_escaped(rt, name)?,
         ["limits"] => println!(rt; "{:?}", standard_limits())?,
-        ["parts", at] => {
-            laws::parts_are_in_order();
-            let at = at.parse::<u64>()?;
-            for part in PARTS {
-                println!(rt; "{}", BadImage::Bad { part, at })?;
-            }
-        }
-        ["faults"] => println!(rt;
-            "{}; {}; {}; {}; {}; {}",
-            BadImage::Memory,
-            NoMemory,
-            StoreFault::Absent,
-            StoreFault::Failed,
-            StoreFault::Memory,
-            SinkFault
-        )?,
+        ["parts", at] => print_parts(rt, at.parse::<u64>()?)?,
+        ["faults"] => print_faults(rt)?,
         ["items", numbers @ ..] => print_items(rt, numbers)?,
         ["reserved", room, numbers @ ..] => print_reserved(rt, room.parse::<usize>()?, numbers)?,
         _ => return Ok(false),
     }
     Ok(true)
+}
+
+fn print_escaped(rt: &HostRuntime, name: &str) -> anyhow::Result<()> {
+    laws::printed_names_differ();
+    let text = escape(rt.alloc(), bytes_of(rt.alloc(), name)?.as_slice())?;
+    println!(rt; "{}", String::from_utf8(text.into_vec())?)?;
+    Ok(())
+}
+
+/// Prints the refusal of each part at an offset.
+fn print_parts(rt: &HostRuntime, at: u64) -> anyhow::Result<()> {
+    laws::parts_are_in_order();
+    for part in PARTS {
+        println!(rt; "{}", BadImage::Bad { part, at })?;
+    }
+    Ok(())
+}
+
+/// Prints each error that has no other text.
+fn print_faults(rt: &HostRuntime) -> anyhow::Result<()> {
+    print!(rt; "{}; {}", BadImage::Memory, NoMemory)?;
+    print!(rt; "; {}; {}", StoreFault::Absent, StoreFault::Failed)?;
+    println!(rt; "; {}; {}", StoreFault::Memory, SinkFault)?;
+    Ok(())
 }
 
 /// The ending that words name.
