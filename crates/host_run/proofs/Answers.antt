@@ -1,5 +1,5 @@
 -- Laws of what plhost answers.
-use Rattle.std.proofs.Common.{◌≡◌, refl, sym, ap, ◌∙◌, subst, ℕ, Bool, true, false, cond, List, [], ◌∷◌, ◌++◌, length, Option, Some, None, Result, Ok, Err, arith}
+use Rattle.std.proofs.Common.{◌≡◌, sym, ap, ◌∙◌, subst, ℕ, Bool, List, [], ◌∷◌, length, Option, Some, None, Result, Ok, Err, arith}
 use Rattle.std.specs.Prelude.{nat_lt, if◌then◌else◌}
 use Rattle.std.proofs.lemmas.Bool.{cond_both}
 use Rattle.bound_base.specs.Outside.{Files}
@@ -10,12 +10,12 @@ use Rattle.host_run.specs.declared.command.Command.{Command}
 use Rattle.host_run.specs.declared.command.Command.TheVariants.{Imports, Stubs, Native, Run, Drill}
 use Rattle.host_run.specs.Grammar.{command}
 use Rattle.host_run.specs.Files.{file_limit}
-use Rattle.host_run.specs.Answer.{Answer, file_answer, usage, absent, too_large}
+use Rattle.host_run.specs.Answer.{Answer, file_answer, usage, too_large}
 use Rattle.host_run.specs.AnswerLaws.{IsNoFailure, AnswersAreNoFailures, IsNoDrill, OtherAnswersAreOne, ReadingEndsAtARefusal}
 use Rattle.host_run.specs.Commands.{IsAnswer, imports_answer, native_answer}
 use Rattle.host_run.specs.Imports.{imports_of}
 use Rattle.host_run.specs.Native.{native_of}
-use Rattle.host_run.specs.Readings.{Reading, names_of}
+use Rattle.host_run.specs.Readings.{names_of}
 use Rattle.host_run.proofs.NativeStatuses.{native-status}
 
 -- ---- no status of a failure

@@ -1,6 +1,6 @@
 -- What a command did, from what reading its file gave, over the files that the store tells, or some files of bytes.
 use Rattle.std.proofs.Common.{◌≡◌, refl, sym, ap, ◌∙◌, subst, ℕ, zero, suc, ◌<◌, ◌≤◌, List, [], ◌∷◌, length, Bool, true, false, Option, Some, None, Result, Ok, Err, arith, get_or}
-use Rattle.std.specs.Prelude.{Contains, All, nat_lt, if◌then◌else◌}
+use Rattle.std.specs.Prelude.{Contains, nat_lt, if◌then◌else◌}
 use Rattle.std.proofs.lemmas.Bool.{le-ltb, lt-ltb}
 use Rattle.std.proofs.lemmas.List.Elements.{All-nil, All-cons, All-from_get_or}
 use Rattle.bound_base.specs.Outside.{Files, Rose, contents_under}
@@ -17,7 +17,6 @@ use Rattle.host_run.specs.Answer.{Answer, file_answer, usage, absent, too_large}
 use Rattle.host_run.specs.Commands.{IsAnswer, imports_answer, native_answer}
 use Rattle.host_run.specs.Settled.{SettlesAs, SettlesFile}
 use Rattle.host_run.specs.Called.{StoreChange, SinkChange, Tells, Finishes, Obeys}
-use Rattle.host_run.proofs.Puts.{front-none}
 use Rattle.host_run.proofs.Outcomes.{unreadable-never, store-quiet, finishes-settled, finishes-memory}
 
 -- ---- some files

@@ -1,7 +1,5 @@
 -- A text that is the whole answer was put, or not.
-use Rattle.std.proofs.Common.{◌≡◌, ap, ℕ, ◌≤◌, List, [], Option, Result, Ok, Err}
-use Rattle.std.specs.Prelude.{⊤}
-use Rattle.bound_base.specs.Outside.{appended, AppendsFront, Rose}
+use Rattle.std.proofs.Common.{◌≡◌, ap, ℕ, ◌≤◌, List, [], Ok, Err}
 use Rattle.bound_base.specs.declared.put.PutError.{PutError}
 use Rattle.bound_base.specs.declared.put.PutError.TheVariants as put
 use Rattle.host_run.specs.declared.settled.Settled.{Settled}

@@ -1,5 +1,5 @@
 -- `imports` of a file that was read.
-use Rattle.std.proofs.Common.{◌≡◌, refl, sym, ap, ℕ, Option, Some, None, Result, Ok, Err, subst}
+use Rattle.std.proofs.Common.{◌≡◌, refl, sym, ap, Option, Some, None, Result, subst}
 use Rattle.byte_view.specs.Reading.{Broken, RefusedBy}
 use Rattle.byte_view.specs.Metadata.{Metadata}
 use Rattle.host_run.specs.declared.settled.Settled.{Settled}

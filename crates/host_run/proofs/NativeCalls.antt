@@ -1,5 +1,5 @@
 -- What a call of native code came to.
-use Rattle.std.proofs.Common.{◌≡◌, refl, ap, ℕ, Result, Ok, Err}
+use Rattle.std.proofs.Common.{◌≡◌, refl, ap, ℕ, Result, Err}
 use Rattle.bound_base.specs.declared.ending.Ending.{Ending}
 use Rattle.bound_base.specs.declared.ending.Ending.TheVariants.{Returned, Exited, Unhandled, Spent, Bad, Deep, SinkFailed, InitFault, Memory}
 use Rattle.bound_base.specs.declared.limits.Lane.{Lane}
@@ -8,7 +8,7 @@ use Rattle.host_bridge.specs.SymbolRun.{SymbolState, Outcome, outcome}
 use Rattle.host_bridge.specs.SymbolParts.{EndsBy}
 use Rattle.host_run.specs.declared.settled.Settled.{Settled}
 use Rattle.host_run.specs.declared.settled.Halt.{Halt}
-use Rattle.host_run.specs.Answer.{Answer, ended}
+use Rattle.host_run.specs.Answer.{ended}
 use Rattle.host_run.specs.Native.{run_answer}
 use Rattle.host_run.specs.Settled.{IsNativeEnding, SettlesEnding}
 use Rattle.host_run.specs.Called.{SinkChange, Finishes}

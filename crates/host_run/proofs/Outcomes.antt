@@ -1,7 +1,7 @@
 -- What a call came to, from what a command and the end of the call did.
-use Rattle.std.proofs.Common.{◌≡◌, ◌⊎◌, inl, inr, sym, ap, ◌∙◌, subst, ℕ, ◌≤◌, List, [], Option, Result, Ok, Err, arith}
-use Rattle.std.specs.Prelude.{◌≢◌, Contains}
-use Rattle.bound_base.specs.Outside.{Files, Rose, appended}
+use Rattle.std.proofs.Common.{◌≡◌, ◌⊎◌, inl, inr, sym, ap, ◌∙◌, subst, ℕ, ◌≤◌, List, [], Result, Ok, Err, arith}
+use Rattle.std.specs.Prelude.{◌≢◌}
+use Rattle.bound_base.specs.Outside.{Files, appended}
 use Rattle.host_run.specs.declared.settled.Settled.{Settled}
 use Rattle.host_run.specs.declared.settled.Halt.{Halt}
 use Rattle.host_run.specs.declared.settled.Halt.TheVariants.{Unreadable, SinkFailed, Memory}
@@ -9,9 +9,9 @@ use Rattle.host_run.specs.Answer.{Answer}
 use Rattle.host_run.specs.AnswerLaws.{IsNoFailure}
 use Rattle.host_run.specs.Commands.{Answers}
 use Rattle.host_run.specs.Readings.{names_read}
-use Rattle.host_run.specs.Settled.{joined, SettlesAs, halt_status, halt_line}
+use Rattle.host_run.specs.Settled.{SettlesAs, halt_status, halt_line}
 use Rattle.host_run.specs.Texts.{memory_line}
-use Rattle.host_run.specs.Called.{StoreChange, SinkChange, Gets, GetsFront, Meets, IfUnreadable, ReadsNothing, CountsStore, CountsSink, Finishes, Obeys, IsPrinted, Closes, GivesAnswer, CouldNotRead, SaysUnreadable, CouldNotPut, HadNoMemory, Called, Counts}
+use Rattle.host_run.specs.Called.{StoreChange, SinkChange, GetsFront, Meets, IfUnreadable, ReadsNothing, CountsStore, CountsSink, Finishes, Obeys, IsPrinted, Closes, GivesAnswer, CouldNotRead, SaysUnreadable, CouldNotPut, HadNoMemory, Called, Counts}
 use Rattle.host_run.proofs.Puts.{append-nil, appended-nil, front-none}
 use Rattle.host_run.proofs.Answers.{answers_are_no_failures}
 

@@ -47,7 +47,8 @@ no_symbol symbol = refused 214 (no_symbol_line symbol)
 
 -- ---- the endings of native code
 
--- The line of an ending that native code comes to; the endings that only a program comes to have none here.
+-- The line of an ending that native code comes to; the endings that only a program comes to have
+-- none here.
 abbrev pub ending_line : Ending → List ℕ
 ending_line (Returned number) = []
 ending_line (Exited number) = []
@@ -65,7 +66,8 @@ ended ending = refused (status ending) (ending_line ending)
 
 -- ---- one file
 
--- a command on one file, by what its bytes are answered by, its name and, where it is held, its contents
+-- a command on one file, by what its bytes are answered by, its name and, where it is held, its
+-- contents
 abbrev pub file_answer : (List ℕ → Answer) → List ℕ → Option (List ℕ) → Answer
 file_answer answer_of name None = absent name
 file_answer answer_of name (Some bytes) =

@@ -17,7 +17,8 @@ pub record IsNoFailure (status : ℕ) : Type 0 where
 -- no answer to words and files has the status of a failure
 abbrev pub AnswersAreNoFailures : Type 0
 AnswersAreNoFailures =
-    (words : List (List ℕ)) (files : Files) (a : Answer) → Answers words files a → IsNoFailure a.status
+    (words : List (List ℕ)) (files : Files) (a : Answer) → Answers words files a
+    → IsNoFailure a.status
 
 abbrev pub IsNoDrill : Option Command → Type 0
 IsNoDrill None = Unit {0}

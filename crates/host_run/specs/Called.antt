@@ -1,5 +1,5 @@
 -- What a call did to the store and the streams, by how it ended.
-use Rattle.std.specs.Prelude.{◌≡◌, ◌≢◌, ◌⊎◌, ◌≤◌, ℕ, List, [], Option, Some, None, Result, Ok, Err, ⊤, Contains, IfSome}
+use Rattle.std.specs.Prelude.{◌≡◌, ◌≢◌, ◌⊎◌, ◌≤◌, ℕ, List, Option, Some, None, Result, Ok, Err, ⊤, Contains, IfSome}
 use Rattle.bound_base.specs.Outside.{Files, Rose, appended, AppendsFront}
 use Rattle.bound_base.specs.Names.{IsBytes}
 use Rattle.host_run.specs.declared.settled.Settled.{Settled}
@@ -52,7 +52,8 @@ Tells (Some held) files = files ≡ held
 
 -- ---- a command
 
--- out got its part of the answer, and err's is made; or out got a front of its part, and none of it where no file could be read
+-- out got its part of the answer, and err's is made; or out got a front of its part, and none of it
+-- where no file could be read
 abbrev pub Meets : Answer → Result Settled Halt → SinkChange → Type 0
 Meets a (Ok settled) out = IsSettledAs a settled × Gets out a.out
 Meets a (Err (Unreadable name)) out = out.new ≡ out.old
@@ -113,7 +114,8 @@ pub record Obeys
 
 -- ---- the end of a call
 
--- A halt's line was put; or that of want of memory in its place; or the put failed, was counted, and put a front of one of them.
+-- A halt's line was put; or that of want of memory in its place; or the put failed, was counted,
+-- and put a front of one of them.
 abbrev pub IsPrinted : Halt → ℕ → SinkChange → Type 0
 IsPrinted halt status err =
     ((status ≡ halt_status halt) × Gets err (halt_line halt) × (err.after ≡ err.before))
@@ -121,8 +123,8 @@ IsPrinted halt status err =
     ⊎ ((status ≡ halt_status SinkFailed) × Rose err.before err.after
     × (GetsFront err (halt_line halt) ⊎ GetsFront err memory_line)))
 
--- What err got at the end, and the status: all texts, or the first put of them that failed is the last; a halt's line; nothing
--- where a put to out has failed.
+-- What err got at the end, and the status: all texts, or the first put of them that failed is the
+-- last; a halt's line; nothing where a put to out has failed.
 abbrev pub Closes : Result Settled Halt → ℕ → SinkChange → Type 0
 Closes (Ok settled) status err =
     ((status ≡ settled.status) × Gets err (joined settled.texts) × (err.after ≡ err.before))
@@ -150,7 +152,8 @@ pub record CouldNotRead
   pub quiet : out.new ≡ out.old
   pub said : Gets err (unreadable_line name)
 
--- err got a front of the line of a file that couldn't be read, where the store counted a failed read
+-- err got a front of the line of a file that couldn't be read, where the store counted a failed
+-- read
 pub record SaysUnreadable
     (names : List (List ℕ)) (store : StoreChange) (err : SinkChange) : Type 0 where
   pub name : List ℕ
@@ -158,7 +161,8 @@ pub record SaysUnreadable
   pub rose : Rose store.before store.after
   pub said : GetsFront err (unreadable_line name)
 
--- A put failed, of out or of err, and was counted: both got a front of what was due, and err nothing where its own puts didn't fail.
+-- A put failed, of out or of err, and was counted: both got a front of what was due, and err
+-- nothing where its own puts didn't fail.
 pub record CouldNotPut
     (a : Answer) (names : List (List ℕ)) (store : StoreChange) (out err : SinkChange) : Type 0 where
   pub rose : Rose out.before out.after ⊎ Rose err.before err.after
@@ -171,8 +175,8 @@ pub record HadNoMemory (a : Answer) (out err : SinkChange) : Type 0 where
   pub out_front : GetsFront out a.out
   pub said : Gets err memory_line
 
--- What a call came to, all of it said of the same files and of one of the answers to the words and them: those that the store
--- tells, or some files of bytes where it tells none.
+-- What a call came to, all of it said of the same files and of one of the answers to the words and
+-- them: those that the store tells, or some files of bytes where it tells none.
 pub record Called
     (words : List (List ℕ)) (status : ℕ) (store : StoreChange) (out err : SinkChange) : Type 0 where
   pub files : Files

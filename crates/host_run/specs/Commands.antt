@@ -17,8 +17,9 @@ imports_answer name = file_answer (λ bytes. imports_of (assembly bytes)) name
 abbrev pub native_answer : List ℕ → List ℕ → List ℕ → Option (List ℕ) → Answer
 native_answer lib symbol numbers = file_answer (native_of lib symbol numbers) lib
 
--- An answer to a command, to the words that ask for it, and to files. It is a relation, since a command may have several; those
--- that are built have one. A command that isn't built is answered as words outside the grammar.
+-- An answer to a command, to the words that ask for it, and to files. It is a relation, since a
+-- command may have several; those that are built have one. A command that isn't built is answered
+-- as words outside the grammar.
 abbrev pub IsAnswer : Option Command → List (List ℕ) → Files → Answer → Type 0
 IsAnswer None words files a = a ≡ usage
 IsAnswer (Some (Imports file)) words files a = a ≡ imports_answer file (files file)

@@ -14,8 +14,8 @@ fault_error fault.Absent = Absent
 fault_error fault.Failed = Failed
 fault_error fault.Memory = Memory
 
--- What reading a whole file gives, by what is told of its name: all of its bytes, or that it isn't held or is too
--- large. A failed read and want of memory are free.
+-- What reading a whole file gives, by what is told of its name: all of its bytes, or that it isn't
+-- held or is too large. A failed read and want of memory are free.
 abbrev pub IsWhole : Option (Option (List ℕ)) → Result (List ℕ) FileError → Type 0
 IsWhole None result = ⊤
 IsWhole (Some None) (Ok bytes) = ⊥

@@ -1,4 +1,5 @@
--- The line grammar: the command that a line's words ask for, and None exactly where they are outside it.
+-- The line grammar: the command that a line's words ask for, and None exactly where they are
+-- outside it.
 use Rattle.std.specs.Prelude.{ℕ, ◌+◌, ◌-◌, ◌^◌, min, Bool, true, false, ◌&&◌, not, nat_eq, nat_lt, nat_le, ◌==◌, if◌then◌else◌, List, [], ◌∷◌, ◌++◌, map, length, drop, sum_by, codes, bytes_eq, string_bytes, String, Option, Some, None, unwrap_or, option_map, option_and_then, is_none}
 use Rattle.std.specs.List.{starts_with, list_all, position_or_len, before_first, after_first}
 use Rattle.std.specs.Char.{is_digit}
@@ -56,7 +57,8 @@ word_value word =
 abbrev pub values : List (List ℕ) → Option (List ℕ)
 values [] = Some []
 values (word ∷ words) =
-    option_and_then (λ value. option_map (λ others. value ∷ others) (values words)) (word_value word)
+    option_and_then (λ value. option_map (λ others. value ∷ others) (values words))
+    (word_value word)
 
 abbrev pub native : List (List ℕ) → Option Command
 native (lib ∷ symbol ∷ arguments) =
@@ -127,7 +129,8 @@ abbrev pub said_by : Options → List (List ℕ) → Option Options
 said_by said [] = Some said
 said_by said (word ∷ words) = option_and_then (λ next. said_by next words) (with_word said word)
 
--- the command, where a FILE was named and no option is in want of its word; the fuel is 10,000,000 where none was named
+-- the command, where a FILE was named and no option is in want of its word; the fuel is 10,000,000
+-- where none was named
 unfoldable pub said_whole : ℕ → Options → Option Command
 said_whole before said =
     elim said.awaits [
@@ -154,7 +157,8 @@ is_end word = bytes_eq word (codes "--")
 abbrev pub fits_program : List (List ℕ) → Bool
 fits_program words = nat_le (length words) 65536 && nat_le (sum_by length words) 16777216
 
--- the words up to the first `--` say what is run, those after it are the program's; `run` itself is counted too
+-- the words up to the first `--` say what is run, those after it are the program's; `run` itself is
+-- counted too
 unfoldable pub run : List (List ℕ) → Option Command
 run words =
     if fits_program (after_first is_end words)

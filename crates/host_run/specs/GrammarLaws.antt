@@ -9,8 +9,8 @@ use Rattle.host_run.specs.declared.command.Command.TheVariants.{Imports, Stubs, 
 abbrev pub IsFileName : List ℕ → Type 0
 IsFileName word = (0 < length word) × (slice_index word 0 ≢ 45)
 
--- the bounds of a command's parts, and of the words that ask for it: those of a program, which stand after the first
--- `before`, fit
+-- the bounds of a command's parts, and of the words that ask for it: those of a program, which
+-- stand after the first `before`, fit
 abbrev pub KeepsBounds : List (List ℕ) → Command → Type 0
 KeepsBounds words (Imports file) = IsFileName file
 KeepsBounds words (Stubs file) = IsFileName file
@@ -24,7 +24,8 @@ KeepsBounds words (Drill number) = number < 2 ^ 32
 abbrev pub CommandsKeepBounds : Type 0
 CommandsKeepBounds = (words : List (List ℕ)) → IfSome (command words) (KeepsBounds words)
 
--- what stands after the first `--` is the program's alone: other words there, within the bounds, leave the command as it is
+-- what stands after the first `--` is the program's alone: other words there, within the bounds,
+-- leave the command as it is
 abbrev pub ProgramWordsAreFree : Type 0
 ProgramWordsAreFree =
     (own first second : List (List ℕ)) → list_all (λ word. not (is_end word)) own ≡ true

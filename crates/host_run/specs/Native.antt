@@ -1,5 +1,5 @@
--- What `native` answers: a library is bound alone, after the blocks that stand first in memory, and one of its symbols is
--- called.
+-- What `native` answers: a library is bound alone, after the blocks that stand first in memory, and
+-- one of its symbols is called.
 use Rattle.std.specs.Prelude.{ℕ, ◌+◌, List, [], ◌∷◌, replicate, Option, Some, None, Result, Ok, Err}
 use Rattle.bound_base.specs.declared.ending.Ending.{Ending}
 use Rattle.bound_base.specs.Limits.{standard}
@@ -75,7 +75,8 @@ bound_answer lib symbol numbers (Ok bound) =
     call_answer symbol numbers bound (symbol_in bound.0.modules 0 symbol)
 bound_answer lib symbol numbers (Err broken) = bad_library lib broken.0 broken.1
 
--- `native` of a library by its file's bytes, which is bound under the name that stands after the last `/`
+-- `native` of a library by its file's bytes, which is bound under the name that stands after the
+-- last `/`
 abbrev pub native_of : List ℕ → List ℕ → List ℕ → List ℕ → Answer
 native_of lib symbol numbers bytes =
     bound_answer lib symbol numbers (bound_alone start_space (file_name lib) bytes)

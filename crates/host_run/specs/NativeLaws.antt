@@ -4,7 +4,8 @@ use Rattle.host_run.specs.Grammar.{word_value}
 use Rattle.host_run.specs.Texts.{sixteen_digits}
 use Rattle.host_run.specs.Native.{native_of}
 
--- a number was given; the library is broken; the fuel is spent; native code faulted; the symbol isn't there
+-- a number was given; the library is broken; the fuel is spent; native code faulted; the symbol
+-- isn't there
 abbrev pub native_statuses : List ℕ
 native_statuses = 0 ∷ 205 ∷ 208 ∷ 213 ∷ 214 ∷ []
 

@@ -17,7 +17,8 @@ abbrev pub has_assembly : Option (List ℕ) → Bool
 has_assembly None = false
 has_assembly (Some bytes) = nat_le (length bytes) file_limit && is_ok (assembly bytes)
 
--- a file that is read, and whether the call goes on to the next one with what is held under its name
+-- a file that is read, and whether the call goes on to the next one with what is held under its
+-- name
 pub record Reading : Type 0 where
   pub name : List ℕ
   pub accepts : Option (List ℕ) → Bool

@@ -1,4 +1,5 @@
--- The items of a line of `run`, in any order: FILE, LIB and FUEL in either spelling, `--report` and `--log`; and the program's words.
+-- The items of a line of `run`, in any order: FILE, LIB and FUEL in either spelling, `--report` and
+-- `--log`; and the program's words.
 use Rattle.std.specs.Prelude.{◌≡◌, ℕ, ◌+◌, ◌<◌, ◌&&◌, true, nat_lt, nat_le, ◌==◌, if◌then◌else◌, List, [], ◌∷◌, ◌++◌, length, flat_map, codes, All, Option, Some, None}
 use Rattle.host_run.specs.Grammar.{number, fits_program, command}
 use Rattle.host_run.specs.GrammarLaws.{IsFileName}
@@ -67,8 +68,9 @@ abbrev pub first_or : {X : Type 0} → List X → X → X
 first_or [] d = d
 first_or (x ∷ xs) d = x
 
--- The command of items, of which so many words say what is run: FILE stands once; FUEL, which is 10,000,000 else, `--report` and
--- `--log` at most once; LIB as often as one likes, and their order is kept.
+-- The command of items, of which so many words say what is run: FILE stands once; FUEL, which is
+-- 10,000,000 else, `--report` and `--log` at most once; LIB as often as one likes, and their order
+-- is kept.
 abbrev pub command_of : List Item → ℕ → Option Command
 command_of items before =
     if length (flat_map file_of items) == 1 && nat_le (length (flat_map fuel_of items)) 1

@@ -57,7 +57,8 @@ SettlesFile name file.Failed result = result ≡ Err (Unreadable name)
 SettlesFile name file.TooLarge result = SettlesAs (too_large name) result
 SettlesFile name file.Memory result = result ≡ Err Memory
 
--- A part is broken, by its place and its file offset, which an error says; one that says nothing is want of memory.
+-- A part is broken, by its place and its file offset, which an error says; one that says nothing is
+-- want of memory.
 abbrev pub SettlesBroken : (ℕ → ℕ → Answer) → Option Broken → Result Settled Halt → Type 0
 SettlesBroken refuses (Some broken) result = SettlesAs (refuses broken.0 broken.1) result
 SettlesBroken refuses None result = result ≡ Err Memory

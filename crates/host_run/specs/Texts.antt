@@ -31,7 +31,8 @@ bad_image_line part at =
     codes "plhost: bad image: " ++ slice_index_or image.part_names part []
     ++ codes " at " ++ decimal at ++ 10 ∷ []
 
--- a broken part of a library, by the library's name, the part's place in the reading order, and the file offset
+-- a broken part of a library, by the library's name, the part's place in the reading order, and the
+-- file offset
 unfoldable pub bad_library_line : List ℕ → ℕ → ℕ → List ℕ
 bad_library_line name part at =
     codes "plhost: bad library " ++ escaped name ++ codes ": "

@@ -1,4 +1,4 @@
-use Rattle.std.proofs.Common.{◌≡◌, ap, refl, Ok}
+use Rattle.std.proofs.Common.{ap, refl}
 use Rattle.std.proofs.lemmas.Result.{err_from_is_err_and}
 use Rattle.byte_view.specs.Assembly.{assembly}
 use Rattle.host_run.specs.Answer.{done}
