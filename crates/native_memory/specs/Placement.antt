@@ -23,7 +23,7 @@ edge_of block = block.base + max block.size 1
 abbrev pub has_room : AddressSpace → ℕ → ℕ → Bool
 has_room space size next = nat_le (live_bytes space + size) space.limit && nat_le next (2 ^ 46)
 
--- with one more block behind the others
+-- with one more block after the others
 abbrev pub with_behind : AddressSpace → Block → ℕ → AddressSpace
 with_behind space block next =
     record space { next = next; edge = edge_of block; blocks = space.blocks ++ block ∷ [] }
@@ -86,8 +86,8 @@ described block = (block.size, block.rights, block.kind)
 -- without the block with a base; None where no live block has it
 unfoldable pub ended : AddressSpace → ℕ → Option AddressSpace
 ended space base =
-    option_map (λ _. record space { blocks = filter (λ block. not (stands_at base block)) space.blocks })
-    (block_with space base)
+    let others = filter (λ block. not (stands_at base block)) space.blocks in
+    option_map (λ _. record space { blocks = others }) (block_with space base)
 
 -- the address lies in the block
 abbrev pub holds_address : ℕ → Block → Bool

@@ -154,7 +154,7 @@ impl Memory {
     }
 
     /// Places a segment at an address that isn't below `edge`: it begins with `bytes`, and zeros fill it up. The next address is
-    /// then at least 16 bytes behind its end, and a multiple of 16.
+    /// then at least 16 bytes after its end, and a multiple of 16.
     ///
     /// The errors are those of `place`.
     pub fn place_at(
@@ -454,7 +454,7 @@ impl Memory {
         }
     }
 
-    /// Adds a block behind the others. There is room for it.
+    /// Adds a block after the others. There is room for it.
     fn push(
         &mut self,
         base: u64,

@@ -123,7 +123,8 @@ fn jump(regs: &mut Regs, len: u64, rd: u8, target: u64) -> Step
 /// Goes to a target that is a multiple of 4 where the branch is taken, else on.
 #[inline]
 fn branch(regs: &mut Regs, len: u64, taken: bool, target: u64) -> Step
-    ensures outcome { result ≡ (if not taken || target % 4 == 0 then Step.Went else no_instruction target) }
+    ensures outcome { result ≡ (if not taken || target % 4 == 0
+        then Step.Went else no_instruction target) }
     ensures registers { regs.new ≡ (if taken
         then (if target % 4 == 0 then record regs.old { pc = target } else regs.old)
         else record regs.old { pc = next_pc regs.old.pc len }) }
