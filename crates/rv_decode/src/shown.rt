@@ -83,11 +83,11 @@ impl fmt::Debug for Instr {
 }
 
 fn upper<W: Write>(f: &mut Formatter<W>, name: &str, rd: u8, imm: i32) -> fmt::Result {
-    write!(f, "{name} {{ rd: {rd}, imm: {imm} }}")
+    with_fields(f, name, &[("rd", i32::from(rd)), ("imm", imm)])
 }
 
 fn jump<W: Write>(f: &mut Formatter<W>, name: &str, rd: u8, offset: i32) -> fmt::Result {
-    write!(f, "{name} {{ rd: {rd}, offset: {offset} }}")
+    with_fields(f, name, &[("rd", i32::from(rd)), ("offset", offset)])
 }
 
 fn with_immediate<W: Write>(
@@ -97,7 +97,11 @@ fn with_immediate<W: Write>(
     rs1: u8,
     imm: i32,
 ) -> fmt::Result {
-    write!(f, "{name} {{ rd: {rd}, rs1: {rs1}, imm: {imm} }}")
+    with_fields(
+        f,
+        name,
+        &[("rd", i32::from(rd)), ("rs1", i32::from(rs1)), ("imm", imm)],
+    )
 }
 
 fn branch<W: Write>(
@@ -107,15 +111,39 @@ fn branch<W: Write>(
     rs2: u8,
     offset: i32,
 ) -> fmt::Result {
-    write!(f, "{name} {{ rs1: {rs1}, rs2: {rs2}, offset: {offset} }}")
+    with_fields(
+        f,
+        name,
+        &[
+            ("rs1", i32::from(rs1)),
+            ("rs2", i32::from(rs2)),
+            ("offset", offset),
+        ],
+    )
 }
 
 fn store<W: Write>(f: &mut Formatter<W>, name: &str, rs1: u8, rs2: u8, imm: i32) -> fmt::Result {
-    write!(f, "{name} {{ rs1: {rs1}, rs2: {rs2}, imm: {imm} }}")
+    with_fields(
+        f,
+        name,
+        &[
+            ("rs1", i32::from(rs1)),
+            ("rs2", i32::from(rs2)),
+            ("imm", imm),
+        ],
+    )
 }
 
 fn shift<W: Write>(f: &mut Formatter<W>, name: &str, rd: u8, rs1: u8, shamt: u8) -> fmt::Result {
-    write!(f, "{name} {{ rd: {rd}, rs1: {rs1}, shamt: {shamt} }}")
+    with_fields(
+        f,
+        name,
+        &[
+            ("rd", i32::from(rd)),
+            ("rs1", i32::from(rs1)),
+            ("shamt", i32::from(shamt)),
+        ],
+    )
 }
 
 fn of_registers<W: Write>(
@@ -125,7 +153,15 @@ fn of_registers<W: Write>(
     rs1: u8,
     rs2: u8,
 ) -> fmt::Result {
-    write!(f, "{name} {{ rd: {rd}, rs1: {rs1}, rs2: {rs2} }}")
+    with_fields(
+        f,
+        name,
+        &[
+            ("rd", i32::from(rd)),
+            ("rs1", i32::from(rs1)),
+            ("rs2", i32::from(rs2)),
+        ],
+    )
 }
 
 fn fence<W: Write>(
@@ -137,8 +173,26 @@ fn fence<W: Write>(
     rs1: u8,
     rd: u8,
 ) -> fmt::Result {
-    write!(
-        f,
-        "{name} {{ fm: {fm}, pred: {pred}, succ: {succ}, rs1: {rs1}, rd: {rd} }}"
-    )
+    let fields = [
+        ("fm", i32::from(fm)),
+        ("pred", i32::from(pred)),
+        ("succ", i32::from(succ)),
+        ("rs1", i32::from(rs1)),
+        ("rd", i32::from(rd)),
+    ];
+    with_fields(f, name, &fields)
+}
+
+/// The name, and the fields with their values.
+fn with_fields<W: Write>(f: &mut Formatter<W>, name: &str, fields: &[(&str, i32)]) -> fmt::Result {
+    f.write_str(name)?;
+    let mut before = " { ";
+    for (field, value) in fields {
+        f.write_str(before)?;
+        f.write_str(field)?;
+        f.write_str(": ")?;
+        fmt::Display::fmt(value, f)?;
+        before = ", ";
+    }
+    f.write_str(" }")
 }
