@@ -31,7 +31,7 @@ build:
 	mkdir -p build
 	cp crates/plhost/out/plhost build/plhost
 
-# The whole gate: every proof, test and program, then the checks.
+# The whole gate: every proof, edit that must be refused, and program, then the checks.
 test:
 	.ci/run
 

@@ -10,7 +10,7 @@ use borrow.Author.Tests.{ltb-true, leb-true}
 use Rattle.native_memory.specs.AddressSpace.{Block, AddressSpace, lowest}
 use Rattle.native_memory.specs.Placement.{base_of, edge_of, holds_address}
 use Rattle.native_memory.specs.Sound.{LieBetween, IsSound}
-use Rattle.host_functions.specs.HostFunctions.{host_names, host_place, place_named}
+use Rattle.host_functions.specs.HostFunctions.{host_functions, host_names, host_place, place_named}
 use Rattle.elf_binder.specs.Laws.{IsHostPlace}
 use Rattle.elf_binder.proofs.Finding.{find_none, found_passes}
 
@@ -51,13 +51,14 @@ module _ (name : List ℕ) (address : ℕ) (is : place_named name ≡ Some addre
   host_place_is =
       let here = numbered (position (λ host. bytes_eq host name) host_names) address is in
       let named = placed_text host_names name here.0 here.1 in
-      let most : here.0 < 13 = named.0 in
+      let counted : here.0 < length host_functions = named.0 in
       record {
         alone = λ other there.
             let his = numbered (position (λ host. bytes_eq host other) host_names) address there in
             let same : his.0 ≡ here.0 = omega (arith, his.2, here.2) in
             sym (placed_text host_names other his.0 his.1).1 ∙ ap (λ (k : ℕ). get_or host_names k []) same ∙ named.1;
-        least = omega (arith, here.2);
-        most = omega (arith, here.2);
+        number = here.0;
+        counted = counted;
+        there = sym here.2;
         outside = λ space sound. outside_blocks address space sound (omega (arith, here.2));
       }

@@ -1,7 +1,7 @@
 -- Laws of names.
-use Rattle.std.specs.Prelude.{◌≡◌, ℕ, ◌≤◌, ◌⊎◌, List, [], ◌∷◌, ◌++◌, All, Some, None}
+use Rattle.std.specs.Prelude.{◌≡◌, ℕ, ◌<◌, ◌⊎◌, List, [], ◌∷◌, ◌++◌, length, All, Some, None}
 use Rattle.byte_view.specs.ElfSymbols.{Symbol}
-use Rattle.host_functions.specs.HostFunctions.{place_named}
+use Rattle.host_functions.specs.HostFunctions.{host_functions, host_place, place_named}
 use Rattle.native_memory.specs.AddressSpace.{AddressSpace}
 use Rattle.native_memory.specs.Placement.{base_of}
 use Rattle.native_memory.specs.Sound.{IsSound}
@@ -31,12 +31,13 @@ InnerSymbolsExportNothing =
     (base : ℕ) (before after : List Symbol) (s : Symbol) → StaysInside s
     → exports_of base (before ++ s ∷ after) ≡ exports_of base (before ++ after)
 
--- an address at which a host function stands: it is that of one name, lies from 0x200 to 0x2C0,
--- and is in no block
+-- an address at which a host function stands: it is that of one name, the place of a number, and in
+-- no block
 pub record IsHostPlace (name : List ℕ) (address : ℕ) : Type 0 where
   pub alone : (other : List ℕ) → place_named other ≡ Some address → other ≡ name
-  pub least : 0x200 ≤ address
-  pub most : address ≤ 0x2C0
+  pub number : ℕ
+  pub counted : number < length host_functions
+  pub there : address ≡ host_place number
   pub outside : (space : AddressSpace) → IsSound space → base_of space address ≡ None
 
 abbrev pub HostFunctionsLieApart : Type 0

@@ -17,7 +17,7 @@ pub fn inner_symbols_export_nothing()
     ensures { InnerSymbolsExportNothing }
 {}
 
-/// Each host function has an address of its own from 0x200 to 0x2C0, which lies in no block.
+/// Each host function has an address of its own, the place of its number, which lies in no block.
 pub fn host_functions_lie_apart()
     ensures { HostFunctionsLieApart }
 {}

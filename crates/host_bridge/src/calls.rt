@@ -68,11 +68,11 @@ fn run_call(
     }
     *fuel -= 1;
     let regs = entry_registers(at, first_sp(lane, stack), words);
-    run_native(alloc, lane, regs, memory, fuel)
+    run_to_return(alloc, lane, regs, memory, fuel)
 }
 
 /// Runs native code to the end of its call, and gives a0.
-fn run_native(
+fn run_to_return(
     alloc: Global,
     lane: Lane,
     mut regs: Regs,

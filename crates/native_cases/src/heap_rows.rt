@@ -43,9 +43,6 @@ fn print_call(
     let Some(k) = number_named(name.as_bytes()) else {
         bail!("no such function");
     };
-    if k >= 13 {
-        bail!("no such number");
-    }
     let mut regs: Regs0 = [OTHERS; 32];
     regs[10] = args[0];
     regs[11] = args[1];

@@ -37,7 +37,6 @@ pub fn call(
     memory: &mut Memory,
     errno: u64,
 ) -> Result<(), HeapBad>
-    requires { k < 13 }
     ensures ok { OnOk result
         (called k regs.old memory.old.space errno ≡ Some (regs.new, memory.new.space)) }
     ensures err { IfErr result (λ bad.

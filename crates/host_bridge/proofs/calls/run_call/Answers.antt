@@ -10,7 +10,7 @@ returns-then-fuel-eq0 c = λ rest before. spent_waiting c.args.lane c.args.stack
 pub returns : goal.returns
 returns c = λ rest before.
     let call : Call = record { at = c.args.at; words = c.args.words.now } in
-    comes_after c.args.lane c.args.stack c.run_native.result _ _ _
+    comes_after c.args.lane c.args.stack c.run_to_return.result _ _ _
     (begins c.args.lane c.args.stack call c.entry_registers-regs.result rest before c.args.memory.now.space c.args.fuel.now (omega arith)
     (c.entry_registers-regs.ensures ∙ ap (λ sp. entry_registers call.at sp call.words) c.first_sp.ensures))
-    (c.run_native.ensures c.args.stack rest before)
+    (c.run_to_return.ensures c.args.stack rest before)

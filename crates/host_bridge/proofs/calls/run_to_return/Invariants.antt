@@ -1,7 +1,7 @@
 use Rattle.std.proofs.Common.{ℕ, List}
 use Rattle.host_bridge.specs.SymbolRun.{Call}
 use Rattle.host_bridge.specs.SymbolParts.{running, SymbolRan}
-use Rattle.host_bridge.proofs.calls.run_native.Given as goal
+use Rattle.host_bridge.proofs.calls.run_to_return.Given as goal
 
 abbrev pub invariant-loop-fuel : goal.invariant-loop-fuel
 invariant-loop-fuel l =

@@ -2,7 +2,7 @@ use Rattle.std.proofs.Common.{◌≡◌, arith, ap}
 use Rattle.native_memory.specs.AddressSpace.{NativeMemory}
 use Rattle.host_bridge.proofs.Parts.{ran_none, ran_more, ends_after, passes_after}
 use Rattle.host_bridge.proofs.CallTurns.{goes_on, call_returns, call_faults, call_is_lost, wants_memory, spent_running}
-use Rattle.host_bridge.proofs.calls.run_native.Goals as goal
+use Rattle.host_bridge.proofs.calls.run_to_return.Goals as goal
 
 same_space : {old new : NativeMemory} → new ≡ old → new.space ≡ old.space
 same_space e = ap (λ (m : NativeMemory). m.space) e
