@@ -1,6 +1,6 @@
 //! A list with room that was reserved before, so that its pushes cannot fail.
 
-ghost use Rattle.std.specs.Prelude.{◌≡◌, ◌+◌, ◌<◌, ◌≤◌, [], ◌∷◌, ◌++◌, length, take, remove, slice_get, slice_index_or, IsTrue, ◌↔◌, IsOk, OnOk, OnErr, OnSome};
+ghost use Rattle.std.specs.Prelude.{◌≡◌, ◌+◌, ◌<◌, ◌≤◌, [], ◌∷◌, ◌++◌, length, take, remove, slice_get, slice_index_or, IsTrue, ◌↔◌, IsOk, IfNone, OnOk, OnErr, OnSome};
 ghost use Rattle.std.specs.Option.{option_copied, option_to_list};
 
 use crate::memory::NoMemory;
@@ -67,6 +67,7 @@ impl<T> Reserved<T> {
     /// Removes the last element, whose place is room again; None where there is no element.
     pub fn pop(&mut self) -> Option<T>
         ensures items { self.old.items ≡ self.new.items ++ option_to_list result }
+        ensures none { IfNone result (self.old.items ≡ []) }
         ensures room { self.new.room ≡ self.old.room + length (option_to_list result) }
     {
         self.items.pop()

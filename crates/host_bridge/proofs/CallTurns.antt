@@ -1,5 +1,5 @@
 -- The events of a run, at a state between two calls and at one in a call.
-use Rattle.std.proofs.Common.{◌≡◌, ◌≢◌, ◌∙◌, ℕ, ◌-◌, ◌<◌, List, [], ◌∷◌, get_or, refl, sym, ap, subst, Result, Ok, Err}
+use Rattle.std.proofs.Common.{◌≡◌, ◌≢◌, ◌∙◌, ℕ, ◌-◌, ◌<◌, true, List, [], ◌∷◌, get_or, refl, sym, ap, subst, Result, Ok, Err}
 use Rattle.bound_base.specs.declared.ending.Ending.{Ending}
 use Rattle.bound_base.specs.declared.ending.Ending.TheVariants.{Returned, Exited, Unhandled, Spent, Bad, Deep, SinkFailed, InitFault, Memory}
 use Rattle.bound_base.specs.declared.limits.Lane.{Lane}
@@ -7,7 +7,7 @@ use Rattle.native_memory.specs.AddressSpace.{AddressSpace}
 use Rattle.rv_machine.specs.declared.registers.Regs.{Regs}
 use Rattle.native_code.specs.Places.{return_place}
 use Rattle.native_code.specs.Entry.{first_sp, entry_registers}
-use Rattle.native_code.specs.Events.{NativeNext, Continues, Arrives, Faults, native_next}
+use Rattle.native_code.specs.Events.{NativeNext, Continues, Arrives, Faults, native_next, event_wants}
 use Rattle.native_code.specs.EventAnswers.{GoesOn}
 use Rattle.host_bridge.specs.SymbolRun.{Call, SymbolState, goes, symbol_step}
 use Rattle.host_bridge.specs.SymbolParts.{waiting, running, SymbolRan, SymbolEnds, SymbolPasses, Comes}
@@ -73,23 +73,26 @@ call_is_lost lane stack regs rest answer space space' fuel place left next other
 
 -- memory for what it would do is wanting
 wants_by : (lane : Lane) (stack : ℕ) (regs : Regs) (rest : List Call) (answer : ℕ) (space space' : AddressSpace) (fuel : ℕ) → 0 < fuel
-    → (next : NativeNext) → native_next lane.errno regs space ≡ next → GoesOn next → space' ≡ space
+    → event_wants regs space ≡ true → (next : NativeNext) → native_next lane.errno regs space ≡ next → GoesOn next → space' ≡ space
     → SymbolPasses lane stack (running regs rest answer space fuel) space'
-wants_by lane stack regs rest answer space space' fuel left (Continues regs' after) is goes_there same_space = record {
+wants_by lane stack regs rest answer space space' fuel left wants (Continues regs' after) is goes_there same_space = record {
   between = running regs rest answer space fuel;
   ran = ran_none lane stack (running regs rest answer space fuel);
+  regs = regs;
+  in_call = refl;
+  wants = wants;
   next = running regs' rest answer after (fuel - 1);
   would_go = native_step lane stack regs regs' rest answer space after fuel left is;
   at_end = sym same_space;
 }
-wants_by lane stack regs rest answer space space' fuel left (Arrives place) is goes_there same_space = absurd goes_there
-wants_by lane stack regs rest answer space space' fuel left (Faults pc) is goes_there same_space = absurd goes_there
+wants_by lane stack regs rest answer space space' fuel left wants (Arrives place) is goes_there same_space = absurd goes_there
+wants_by lane stack regs rest answer space space' fuel left wants (Faults pc) is goes_there same_space = absurd goes_there
 
 pub wants_memory : (lane : Lane) (stack : ℕ) (regs : Regs) (rest : List Call) (answer : ℕ) (space space' : AddressSpace) (fuel : ℕ) → 0 < fuel
-    → GoesOn (native_next lane.errno regs space) → space' ≡ space
+    → event_wants regs space ≡ true → GoesOn (native_next lane.errno regs space) → space' ≡ space
     → SymbolPasses lane stack (running regs rest answer space fuel) space'
-wants_memory lane stack regs rest answer space space' fuel left goes_there same_space =
-    wants_by lane stack regs rest answer space space' fuel left (native_next lane.errno regs space) refl goes_there same_space
+wants_memory lane stack regs rest answer space space' fuel left wants goes_there same_space =
+    wants_by lane stack regs rest answer space space' fuel left wants (native_next lane.errno regs space) refl goes_there same_space
 
 -- no fuel is left
 pub spent_running : (lane : Lane) (stack : ℕ) (regs : Regs) (rest : List Call) (answer : ℕ) (space : AddressSpace) (fuel : ℕ) → fuel ≡ 0

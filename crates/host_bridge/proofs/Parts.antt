@@ -38,6 +38,9 @@ pub passes_after : (lane : Lane) (stack : ℕ) (old mid : SymbolState) (space : 
 passes_after lane stack old mid space a b = record {
   between = b.between;
   ran = ran_more lane stack old mid b.between a b.ran;
+  regs = b.regs;
+  in_call = b.in_call;
+  wants = b.wants;
   next = b.next;
   would_go = b.would_go;
   at_end = b.at_end;

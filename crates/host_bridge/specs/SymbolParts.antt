@@ -1,10 +1,11 @@
 -- Parts of a run of a symbol, and what the code says of them.
-use Rattle.std.specs.Prelude.{◌≡◌, ℕ, List, [], Some, None, Result, Ok, Err}
+use Rattle.std.specs.Prelude.{◌≡◌, ℕ, true, List, [], Some, None, Result, Ok, Err}
 use Rattle.bound_base.specs.declared.ending.Ending.{Ending}
 use Rattle.bound_base.specs.declared.ending.Ending.TheVariants.{Returned, Exited, Unhandled, Spent, Bad, Deep, SinkFailed, InitFault, Memory}
 use Rattle.bound_base.specs.declared.limits.Lane.{Lane}
 use Rattle.native_memory.specs.AddressSpace.{AddressSpace}
 use Rattle.rv_machine.specs.declared.registers.Regs.{Regs}
+use Rattle.native_code.specs.Events.{event_wants}
 use Rattle.runs.specs.Runs.{Ran, Ends}
 use Rattle.host_bridge.specs.SymbolRun.{Call, SymbolState, goes, symbol_step, symbol_machine, outcome}
 
@@ -33,11 +34,15 @@ pub record SymbolEnds (lane : Lane) (stack : ℕ)
   pub ends : Ends (symbol_machine lane stack) old last [] [] answer
   pub at_end : last.space ≡ space
 
--- some events lead from a state to one with this memory, and the run would go on there
+-- some events lead from a state to one in a call, with this memory, whose next event may find memory
+-- wanting; the run would go on there
 pub record SymbolPasses (lane : Lane) (stack : ℕ) (old : SymbolState) (space : AddressSpace)
     : Type 0 where
   pub between : SymbolState
   pub ran : SymbolRan lane stack old between
+  pub regs : Regs
+  pub in_call : between.native ≡ Some regs
+  pub wants : event_wants regs between.space ≡ true
   pub next : SymbolState
   pub would_go : symbol_step lane stack between ≡ goes next
   pub at_end : between.space ≡ space

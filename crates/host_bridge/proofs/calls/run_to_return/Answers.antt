@@ -1,4 +1,4 @@
-use Rattle.std.proofs.Common.{◌≡◌, arith, ap}
+use Rattle.std.proofs.Common.{◌≡◌, arith, refl, ap}
 use Rattle.native_memory.specs.AddressSpace.{NativeMemory}
 use Rattle.host_bridge.proofs.Parts.{ran_none, ran_more, ends_after, passes_after}
 use Rattle.host_bridge.proofs.CallTurns.{goes_on, call_returns, call_faults, call_is_lost, wants_memory, spent_running}
@@ -39,7 +39,7 @@ pub returns-in-Memory : goal.returns-in-Memory
 returns-in-Memory c = λ stack rest before.
     passes_after c.args.lane stack _ _ _ (c.loop-fuel.invariant stack rest before)
     (wants_memory c.args.lane stack c.loop-fuel.regs rest before c.loop-fuel.memory.space c.native_event.new.memory.space c.loop-fuel.fuel (omega arith)
-    c.in-Memory.ensures.next (same_space (c.in-Memory.ensures.memory (λ e. cc))))
+    (c.in-Memory.ensures.wants refl) c.in-Memory.ensures.next (same_space (c.in-Memory.ensures.memory (λ e. cc))))
 
 pub returns : goal.returns
 returns c = λ stack rest before.
