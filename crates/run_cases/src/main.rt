@@ -1,6 +1,6 @@
 //! Reads cases, one a line of stdin, and prints each with what `host_bridge` or `native_code`
 //! answers. A line is a verb and its words, and a number is decimal, or hexadecimal after 0x. A
-//! line that has none of the verbs is printed as it is.
+//! line that has none of the verbs is printed as it is. And it shows by `countdown` that the laws of runs can be had of a machine.
 //!
 //! - `memory`: native memory anew, with the blocks that are placed first, and 1,024 bytes of zeros at 0x120000 that may be
 //!   read, written and executed.
@@ -11,11 +11,12 @@
 #![tactic(auto)]
 
 mod answers;
+mod countdown;
 mod words;
 
 use answers::{print_events, run, run_with_initializers};
 use bound_base::Rights;
-use native_memory::{Kind, Memory};
+use native_memory::{DATA_RIGHTS, Kind, Memory};
 use std::alloc::Global;
 use std::io::{BufRead, BufReader};
 use words::{number, numbers};
@@ -26,18 +27,13 @@ const ALL: Rights = Rights {
     x: true,
 };
 
-const DATA: Rights = Rights {
-    r: true,
-    w: true,
-    x: false,
-};
-
 /// Where code and data stand, and how many bytes they have.
 const CODE: u64 = 0x12_0000;
 
 const SIZE: u64 = 0x400;
 
 fn main(rt: HostRuntime) -> anyhow::Result<()> {
+    countdown::laws_hold();
     let mut memory = started(rt.alloc())?;
     for line in BufReader::new(rt.alloc(), rt.reader())?.lines(rt.alloc()) {
         let line = line?;
@@ -79,8 +75,8 @@ fn answer(
 /// Memory with the first blocks, and a segment for code and data.
 fn started(alloc: Global) -> anyhow::Result<Memory> {
     let mut memory = Memory::new(alloc, 1 << 24);
-    memory.place(4, DATA, Kind::Errno)?;
-    memory.place(1 << 20, DATA, Kind::Stack)?;
+    memory.place(4, DATA_RIGHTS, Kind::Errno)?;
+    memory.place(1 << 20, DATA_RIGHTS, Kind::Stack)?;
     if CODE < memory.edge() {
         anyhow::bail!("the segment's place is taken");
     }
