@@ -5,10 +5,10 @@ ghost use Rattle.elf_binder.specs.Refusals.{AreRead};
 
 use crate::hexadecimal::number;
 use crate::names::print_found;
-use bound_base::{Bytes, Items, Rights};
+use bound_base::{Bytes, Items};
 use elf_binder::{BindBad, Bound, bind};
 use elf_reader::{Elf, ElfBad, read_elf};
-use native_memory::{Kind, Memory};
+use native_memory::{DATA_RIGHTS, Kind, Memory};
 use std::alloc::{AllocError, Global};
 
 /// Libraries that are bound, and memory with them.
@@ -17,12 +17,6 @@ pub struct Libraries {
     bound: Bound,
     memory: Memory,
 }
-
-const DATA: Rights = Rights {
-    r: true,
-    w: true,
-    x: false,
-};
 
 /// How many libraries can be bound.
 const LIMIT: usize = 16;
@@ -74,8 +68,8 @@ pub fn print_patched(
 /// Memory with the blocks that stand before libraries: the number of the last error, and a stack of 1 MiB.
 fn started(alloc: Global) -> anyhow::Result<Memory> {
     let mut memory = Memory::new(alloc, 0x1000_0000);
-    memory.place(4, DATA, Kind::Errno)?;
-    memory.place(0x10_0000, DATA, Kind::Stack)?;
+    memory.place(4, DATA_RIGHTS, Kind::Errno)?;
+    memory.place(0x10_0000, DATA_RIGHTS, Kind::Stack)?;
     Ok(memory)
 }
 
