@@ -9,7 +9,7 @@ mod names;
 use bindings::{Libraries, bind_copies, print_patched, put_over};
 use elf_binder::{Module, address_of, is_defined};
 use elf_reader::Symbols;
-use hexadecimal::{bytes_of, number};
+use hexadecimal::number;
 use names::{print_exports, print_found, symbol};
 use std::alloc::Global;
 use std::io::{BufRead, BufReader};
@@ -43,9 +43,9 @@ fn main(rt: HostRuntime) -> anyhow::Result<()> {
 /// Changes the file, the symbols or the modules where the verb does, and tells whether it does.
 fn change(alloc: Global, case: &mut Case, words: &[&str]) -> anyhow::Result<bool> {
     match *words {
-        ["file", bytes] => case.file = bytes_of(alloc, bytes)?,
+        ["file", bytes] => case.file = hex::decode(alloc, bytes)?,
         ["put", at, bytes] => {
-            let piece = bytes_of(alloc, bytes)?;
+            let piece = hex::decode(alloc, bytes)?;
             put_over(&mut case.file, number(at)? as usize, &piece);
         }
         ["symbol", name, value, binding, kind, visibility, section] => {
@@ -73,7 +73,7 @@ fn answer(
 ) -> anyhow::Result<()> {
     match *words {
         ["wrong", at, bytes] => {
-            let piece = bytes_of(rt.alloc(), bytes)?;
+            let piece = hex::decode(rt.alloc(), bytes)?;
             print_patched(rt, &case.file, number(at)? as usize, &piece)?;
         }
         ["bind", ..] => case.libraries = bind_copies(rt, &case.file, &words[1..])?,

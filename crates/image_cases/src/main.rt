@@ -8,7 +8,7 @@ mod hexadecimal;
 mod metadata;
 
 use headers::{print_bytes_at, print_headers, print_rest_at};
-use hexadecimal::{bytes_of, put_over};
+use hexadecimal::put_over;
 use metadata::{Question, print_metadata, question_of};
 use std::alloc::Global;
 use std::io::{BufRead, BufReader};
@@ -42,7 +42,7 @@ fn change(alloc: Global, case: &mut Case, words: &[&str]) -> anyhow::Result<bool
     match *words {
         ["zeros", len] => case.file = vec![in alloc; 0u8; len.parse::<usize>()?]?,
         ["put", at, bytes] => {
-            let piece = bytes_of(alloc, bytes)?;
+            let piece = hex::decode(alloc, bytes)?;
             put_over(&mut case.file, at.parse::<usize>()?, &piece);
         }
         ["cut", len] => case.file.truncate(len.parse::<usize>()?),
@@ -97,7 +97,7 @@ fn ask_metadata(
 
 /// A file with other bytes at a place.
 fn patched(alloc: Global, file: &[u8], at: &str, bytes: &str) -> anyhow::Result<Vec<u8>> {
-    let piece = bytes_of(alloc, bytes)?;
+    let piece = hex::decode(alloc, bytes)?;
     let mut copy = file.to_vec(alloc)?;
     put_over(&mut copy, at.parse::<usize>()?, &piece);
     Ok(copy)

@@ -2,12 +2,10 @@
 //! bytes are in hexadecimal, numbers in decimal. A line that has none of the verbs is printed as it is.
 #![tactic(auto)]
 
-mod hexadecimal;
 mod plans;
 mod readings;
 
 use bound_base::Bytes;
-use hexadecimal::bytes_of;
 use image_kit::{LibraryPlan, NamedPlace};
 use plans::{empty_plan, instruction, odd_jump, write};
 use readings::{print_cuts, print_name_lengths, print_patched, print_read, put_over};
@@ -39,9 +37,9 @@ fn main(rt: HostRuntime) -> anyhow::Result<()> {
 /// Changes the file or the plan where the verb does, and tells whether it does.
 fn change(alloc: Global, case: &mut Case, words: &[&str]) -> anyhow::Result<bool> {
     match *words {
-        ["file", bytes] => case.file = bytes_of(alloc, bytes)?,
+        ["file", bytes] => case.file = hex::decode(alloc, bytes)?,
         ["put", at, bytes] => {
-            let piece = bytes_of(alloc, bytes)?;
+            let piece = hex::decode(alloc, bytes)?;
             put_over(&mut case.file, at.parse::<usize>()?, &piece);
         }
         ["fill", len, byte] => case
@@ -50,11 +48,11 @@ fn change(alloc: Global, case: &mut Case, words: &[&str]) -> anyhow::Result<bool
         ["code", word] => case.plan.code.push(instruction(word)?)?,
         ["odd"] => case.plan.code.push(odd_jump())?,
         ["name", bytes, offset] => {
-            let name = Bytes::from_vec(bytes_of(alloc, bytes)?);
+            let name = Bytes::from_vec(hex::decode(alloc, bytes)?);
             let offset = offset.parse::<u64>()?;
             case.plan.names.push(NamedPlace { name, offset })?;
         }
-        ["bytes", bytes] => case.plan.bytes = Bytes::from_vec(bytes_of(alloc, bytes)?),
+        ["bytes", bytes] => case.plan.bytes = Bytes::from_vec(hex::decode(alloc, bytes)?),
         _ => return Ok(false),
     }
     Ok(true)
@@ -72,7 +70,7 @@ fn answer(
         ["names"] => print_name_lengths(rt, &case.file)?,
         ["cuts"] => print_cuts(rt, &case.file)?,
         ["wrong", at, bytes] => {
-            let piece = bytes_of(rt.alloc(), bytes)?;
+            let piece = hex::decode(rt.alloc(), bytes)?;
             print_patched(rt, &case.file, at.parse::<usize>()?, &piece)?;
         }
         ["write"] => {

@@ -1,11 +1,9 @@
 //! The words of a case.
 
-ghost use Rattle.std.specs.Prelude.{◌<◌};
-
 use anyhow::bail;
 use bound_base::Rights;
 use native_memory::{Fault, Kind};
-use std::alloc::{AllocError, Global};
+use std::alloc::Global;
 
 /// A number: hexadecimal after 0x, else decimal.
 pub fn number(word: &str) -> anyhow::Result<u64> {
@@ -15,25 +13,12 @@ pub fn number(word: &str) -> anyhow::Result<u64> {
     }
 }
 
-/// The bytes of a text of two digits for each. What is no digit stands for 0, and `-` for no bytes.
-pub fn bytes_of(alloc: Global, word: &str) -> Result<Vec<u8>, AllocError> {
-    let digits = word.as_bytes();
-    let mut bytes = Vec::new(alloc);
-    for k in 0..digits.len() / 2 {
-        bytes.push(16 * digit(digits[2 * k]) + digit(digits[2 * k + 1]))?;
+/// The bytes of a text of two digits for each, `-` for no bytes.
+pub fn bytes_of(alloc: Global, word: &str) -> anyhow::Result<Vec<u8>> {
+    if word == "-" {
+        return Ok(Vec::new(alloc));
     }
-    Ok(bytes)
-}
-
-/// What a digit stands for.
-fn digit(letter: u8) -> u8
-    ensures { result < 16 }
-{
-    match letter {
-        b'0'..=b'9' => letter - b'0',
-        b'a'..=b'f' => letter - b'a' + 10,
-        _ => 0,
-    }
+    Ok(hex::decode(alloc, word)?)
 }
 
 /// Rights: those of the letters r, w and x that the word has.
