@@ -1,7 +1,9 @@
 //! A `Vec` that contracts see as the list of its elements.
 
-ghost use Rattle.std.specs.Prelude.{◌≡◌, [], ◌∷◌, ◌++◌, length, slice_get, ◌<◌, ◌↔◌, IsTrue, IfOk, OnOk, OnErr, OnSome};
-ghost use Rattle.std.specs.Option.{option_copied};
+ghost use Rattle.std.specs.Prelude.{◌≡◌, [], ◌∷◌, ◌++◌, length, slice_get, slice_set, ◌<◌, ◌↔◌, IsTrue, IfOk, OnOk, OnErr, OnSome};
+ghost use Rattle.std.specs.Option.{option_copied, option_copied_mut};
+ghost use Rattle.std.specs.Borrow.{LendsIf, sem};
+ghost use Rattle.bound_base.specs.contracts.items.Items.{the_row};
 
 use std::alloc::{AllocError, Global};
 use std::marker::Model;
@@ -87,9 +89,25 @@ impl<T> Items<T> {
     {
         self.items.get(at)
     }
+
+    /// The element at a place, counted from 0, to be changed; None past the end.
+    pub fn get_mut(&mut self, at: usize) -> Option<&mut T>
+        ensures* writes_back { sem 𝓛 (LendsIf (the_row T.row) T.row self.entry result (λ w. slice_set self.old at w) self.old) }
+        ensures value { option_copied_mut result ≡ slice_get self.old at }
+    {
+        self.items.get_mut(at)
+    }
 }
 
 impl<T: Drop> Items<T> {
+    /// Puts an element at a place in place of the one there.
+    pub fn set(&mut self, at: usize, item: T)
+        requires { at < length self.old }
+        ensures { self.new ≡ slice_set self.old at item }
+    {
+        self.items[at] = item;
+    }
+
     /// Adds an element at the end, or changes nothing where there is no memory.
     pub fn push(&mut self, item: T) -> Result<(), AllocError>
         ensures ok { OnOk result (self.new ≡ self.old ++ item ∷ []) }
