@@ -1,0 +1,8 @@
+//! The signatures of metadata (ECMA-335 II.23.2).
+#![tactic(auto)]
+
+mod bad;
+mod signature;
+
+pub use bad::SigBad;
+pub use signature::{I32s, Sig, TypeSig, TypeSigs, U32s};
