@@ -296,8 +296,13 @@ def lines_of(imports):
     return "".join(f"{escape(module)} {escape(entry)}\n" for module, entry in imports)
 
 
-def answer(name):
-    """Returns the status, standard output and standard error of `plhost imports NAME`."""
+def imports_text(data):
+    """What `plhost imports` prints of these bytes. Raises Bad."""
+    return lines_of(imports_of(data))
+
+
+def answer(name, text_of=imports_text):
+    """Returns the status, standard output and standard error of `plhost imports NAME`, or of what `text_of` prints."""
     shown = escape(os.fsencode(name))
     try:
         with open(name, "rb") as file:
@@ -306,15 +311,15 @@ def answer(name):
         return 202, "", f"plhost: absent: {shown}\n"
     except OSError:
         return 203, "", f"plhost: cannot read: {shown}\n"
-    return answer_bytes(data, shown)
+    return answer_bytes(data, shown, text_of)
 
 
-def answer_bytes(data, shown):
+def answer_bytes(data, shown, text_of=imports_text):
     """The same for a file that holds these bytes, and whose name is shown so."""
     if len(data) > MOST_BYTES:
         return 212, "", f"plhost: too large: {shown}\n"
     try:
-        return 0, lines_of(imports_of(data)), ""
+        return 0, text_of(data), ""
     except Bad as bad:
         return 204, "", f"plhost: bad image: {bad}\n"
 
