@@ -26,9 +26,14 @@ def ask(plhost, command, path):
     return ran.returncode, ran.stdout.decode(errors="replace"), ran.stderr.decode(errors="replace")
 
 
+def lacks_stubs(plhost):
+    """Whether plhost does not have the line `stubs` yet."""
+    return ask(plhost, "stubs", f"{ROOT}/crates/plhost/data/app.dll")[0] == 201
+
+
 def skip_without_stubs(plhost):
     """Ends the check where plhost does not have the line `stubs` yet."""
-    if ask(plhost, "stubs", f"{ROOT}/crates/plhost/data/app.dll")[0] == 201:
+    if lacks_stubs(plhost):
         print("skipped: this plhost doesn't have the line `stubs`")
         sys.exit()
 

@@ -8,8 +8,9 @@ PACKINGS = (0, 1, 2, 4, 8, 16, 32, 64, 128)
 
 # A native form: its size and alignment in bytes; whether it is flat, that is an integer, a pointer or a struct of such; whether
 # texts and whether delegates stand in it; its scalar parts; how deep it is nested; and why it can't be laid out, '' where it
-# can. Only size, alignment and parts of a form that can be laid out mean anything.
-Form = namedtuple("Form", "size align flat texts delegates parts depth broken kind")
+# can; its word in a stub; and the offsets of a struct's fields. Only the size, the alignment, the parts and the offsets of a form
+# that can be laid out mean anything.
+Form = namedtuple("Form", "size align flat texts delegates parts depth broken kind offsets", defaults=((),))
 
 
 def scalar(size, kind, flat=False, texts=False, delegates=False):
@@ -35,13 +36,13 @@ def struct(fields, explicit, packing, least, offsets):
     flat = all(it.flat for it in fields)
     found = placed(fields, explicit, packing, least, offsets, flat)
     broken = found if isinstance(found, str) else ""
-    size, align = (1, 1) if broken else (found[1], found[2])
+    offsets, size, align = ((), 1, 1) if broken else found
     parts = sum(it.parts for it in fields)
     depth = 1 + max((it.depth for it in fields), default=0)
     if not broken and (parts > MOST_PARTS or depth > MOST_NESTED):
         broken = "too many parts" if parts > MOST_PARTS else "nested too deep"
     texts, delegates = any(it.texts for it in fields), any(it.delegates for it in fields)
-    return Form(size, align, flat, texts, delegates, min(parts, MOST_PARTS + 1), min(depth, MOST_NESTED + 1), broken, "struct")
+    return Form(size, align, flat, texts, delegates, min(parts, MOST_PARTS + 1), min(depth, MOST_NESTED + 1), broken, "struct", tuple(offsets))
 
 
 def placed(fields, explicit, packing, least, offsets, flat):
