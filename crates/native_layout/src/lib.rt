@@ -1,8 +1,14 @@
 //! The shapes of values in native memory, and where the fields of a struct lie (ECMA-335 II.10.7).
 #![tactic(auto)]
 
+mod contents;
+mod extent;
+mod placing;
 mod refused;
 mod shapes;
 
+pub use contents::{MOST_PARTS, has_pointer_cells, has_texts, is_flat, scalar_parts};
+pub use extent::Extent;
+pub use placing::LARGEST_STRUCT;
 pub use refused::LayoutBad;
 pub use shapes::{Enc, Layout, Offsets, Shape, Shapes, StructShape};
