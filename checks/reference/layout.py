@@ -47,9 +47,8 @@ def struct(fields, explicit, packing, least, offsets):
 
 def placed(fields, explicit, packing, least, offsets, flat):
     """Returns each field's offset, the size and the alignment; or the rule that is broken."""
-    inner = next((it.broken for it in fields if it.broken), "")
-    if inner:
-        return f"a field that is outside: {inner}"
+    if any(it.broken for it in fields):
+        return "a field that is outside"
     if not fields:
         return "no fields"
     if packing not in PACKINGS:
