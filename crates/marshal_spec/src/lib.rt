@@ -2,6 +2,10 @@
 //! (ECMA-335 II.23.4).
 #![tactic(auto)]
 
+pub mod laws;
+pub mod native_types;
+mod reading;
 mod spec;
 
-pub use spec::Spec;
+pub use reading::read_spec;
+pub use spec::{Spec, SpecBad};

@@ -1,6 +1,8 @@
-//! What a descriptor says.
+//! What a descriptor says, and why bytes are no descriptor.
 
-/// A marshalling descriptor. Native types are their byte codes of ECMA-335 II.23.4.
+use thiserror::Error;
+
+/// A marshalling descriptor. Native types are their byte codes (ECMA-335 II.23.4).
 #[derive(Clone, Copy, Debug, PartialEq, Eq)]
 pub enum Spec {
     /// A native type without parts, by its code.
@@ -13,4 +15,13 @@ pub enum Spec {
     /// parameter that holds its length, a count of elements, and the flag, whose bit 0 says that
     /// the parameter's number is used.
     LpArray(Option<u8>, Option<u32>, Option<u32>, Option<u32>),
+}
+
+/// Why bytes are no descriptor.
+#[derive(Clone, Copy, Debug, PartialEq, Eq, Error)]
+pub enum SpecBad {
+    /// The length of the longest front of the bytes with which some descriptor's spelling begins:
+    /// the byte there fits nowhere, or is missing.
+    #[error("bad descriptor at {0}")]
+    BadSpec(u64),
 }
