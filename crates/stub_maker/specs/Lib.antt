@@ -1,0 +1,11 @@
+pub mod Answers
+pub mod Callbacks
+pub mod Extents
+pub mod Facts
+pub mod Forms
+pub mod Printed
+pub mod Rules
+pub mod Sized
+pub mod Shapes
+pub mod Steps
+pub mod Table

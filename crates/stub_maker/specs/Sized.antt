@@ -1,0 +1,35 @@
+-- What can be printed: each shape of it is in order and laid out, and its size is a number of 64 bits.
+use Rattle.std.specs.Prelude.{◌^◌, ◌<◌, All, IsTrue}
+use Rattle.native_layout.specs.declared.shapes.Shape.{Shape}
+use Rattle.native_layout.specs.Shapes.{in_order, measure}
+use Rattle.stub_maker.specs.Extents.{size}
+use Rattle.stub_maker.specs.declared.stub.Step.{Step}
+use Rattle.stub_maker.specs.declared.stub.Step.TheVariants as step
+use Rattle.stub_maker.specs.declared.stub.Res.{Res}
+use Rattle.stub_maker.specs.declared.stub.Res.TheVariants as res
+use Rattle.stub_maker.specs.declared.stub.Stub.{Stub}
+
+pub record IsSized (shape : Shape) : Type 0 where
+  pub order : IsTrue (in_order shape)
+  pub stands : IsTrue (measure shape).stands
+  pub narrow : size shape < 2 ^ 64
+
+abbrev pub IsSizedStep : Step → Type 0
+IsSizedStep (step.Hold k) = Unit {0}
+IsSizedStep (step.Word k shape) = IsSized shape
+IsSizedStep (step.Text k encoding) = Unit {0}
+IsSizedStep (step.Value k shape) = IsSized shape
+IsSizedStep (step.Place k mark shape) = IsSized shape
+IsSizedStep (step.Lend k shape) = IsSized shape
+IsSizedStep (step.Copy k mark shape) = IsSized shape
+IsSizedStep (step.Thunk k) = Unit {0}
+
+abbrev pub IsSizedResult : Res → Type 0
+IsSizedResult res.Void = Unit {0}
+IsSizedResult (res.Word shape) = IsSized shape
+IsSizedResult (res.Text encoding) = Unit {0}
+IsSizedResult (res.Value shape) = IsSized shape
+
+pub record IsSizedStub (stub : Stub) : Type 0 where
+  pub steps : All IsSizedStep stub.steps
+  pub result_way : IsSizedResult stub.result

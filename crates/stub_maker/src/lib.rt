@@ -1,0 +1,13 @@
+//! How each import's arguments and result cross to native code and back: its stub, or why it has none.
+#![tactic(auto)]
+
+mod forms;
+mod kinds;
+mod refused;
+mod stub;
+mod table;
+
+pub use kinds::{Descriptor, Form, Kind, Passed, TypeKind};
+pub use refused::{Param, StubBad, Why};
+pub use stub::{Args, Back, Mark, Marks, Received, ReceivedList, Res, Step, Steps, Stub};
+pub use table::{Cell, Column, Row};
