@@ -39,6 +39,7 @@ test:
 # bench/native proves and builds.
 bench: $(if $(PLHOST),,build)
 	bench/imports
+	bench/types
 	bench/native
 	bench/library
 
