@@ -35,8 +35,13 @@ def answer(command, name):
     return imports.answer(name, lambda data: COMMANDS[command](accepted(data)))
 
 
+def answer_bytes(command, data, shown):
+    """The same for a file that holds these bytes, and whose name is shown so."""
+    return imports.answer_bytes(data, shown, lambda data: COMMANDS[command](accepted(data)))
+
+
 def answers(data, shown):
-    """Returns for each command the same for a file that holds these bytes, and whose name is shown so."""
+    """The same for each command, by one reading."""
     found = []
 
     def text_of(command):
