@@ -10,7 +10,7 @@ use Rattle.marshal_spec.specs.declared.spec.Spec.TheVariants.{Plain, ByValText, 
 use Rattle.marshal_spec.specs.NativeTypes.{is_plain, IsPlain, by_val_text, by_val_array, lp_array, no_element}
 use Rattle.marshal_spec.specs.Grammar.{IsNumber, IsElement, AreNumbers, Spells, Begins, IsRefusedAt}
 use Rattle.marshal_spec.specs.Grammar as grammar
-use Rattle.marshal_spec.specs.Reading.{Reader, ended, text_rest, array_rest, is_element, element_of, numbers_rest, lp_array_rest, is_first, rest_after, spec_read, value_of}
+use Rattle.marshal_spec.specs.Reading.{Reader, ended, text_rest, array_rest, is_element, element_of, numbers_rest, lp_array_rest, is_first, rest_after, spec_read, spec_of, value_of}
 use Rattle.marshal_spec.specs.Laws.{ReadingIsTheGrammar, BytesSpellOne, RefusedByFront}
 use Rattle.marshal_spec.proofs.Readers.{Good, Refusal, Ended, OrEnded, ByteThen, NumberThen, ended_good, if_ended_good, byte_then_good, number_then_good, byte_there, not_both, same_place, same_spec}
 
@@ -146,9 +146,11 @@ numbers_in element (grammar.flagged one two three {p} {c} {f} a b d) =
 -- the first byte
 
 first_there : (code : ℕ) (rest : List ℕ) → is_first code ≡ true → spec_read (code ∷ rest) ≡ rest_after code (code ∷ rest) 1
+unfolding spec_read
 first_there code rest e = rw (byte_there is_first [] code rest, e) refl
 
 first_fits_not : (code : ℕ) (rest : List ℕ) → is_first code ≡ false → spec_read (code ∷ rest) ≡ Err 0
+unfolding spec_read
 first_fits_not code rest e = rw (byte_there is_first [] code rest, e) refl
 
 -- a byte other than the three of descriptors with parts
@@ -193,6 +195,7 @@ pointed_in code rest element spec k h = let e = element_in k in (e.0, rw e.1 h)
 
 -- what is spelled is read
 pub spelled_is_read : {bytes : List ℕ} {spec : Spec} → Spells bytes spec → spec_read bytes ≡ Ok spec
+unfolding spec_read
 spelled_is_read (grammar.plain {code} plain) = plain_reads code plain
 spelled_is_read (grammar.text {count} {n} number) =
     first_there by_val_text count refl ∙ text_good.complete (by_val_text ∷ []) count (ByValText n) (ended_number _ n count number _ refl)
@@ -242,6 +245,7 @@ read_by code rest spec true first e =
 read_by code rest spec false first e = not_both _ _ _ e (first_fits_not code rest first)
 
 pub read_is_spelled : (bytes : List ℕ) (spec : Spec) → spec_read bytes ≡ Ok spec → Spells bytes spec
+unfolding spec_read
 read_is_spelled [] spec e = absurd (cc)
 read_is_spelled (code ∷ rest) spec e = read_by code rest spec _ refl e
 
@@ -301,6 +305,7 @@ stops_by code rest place false first e =
     first_same x t xs ts e = cc
 
 stops : (bytes : List ℕ) (place : ℕ) → spec_read bytes ≡ Err place → Stop bytes place
+unfolding spec_read
 stops [] place e =
     record {
       front = [];
@@ -370,6 +375,7 @@ option_of (Ok other) spec e = cc
 option_of (Err place) spec e = absurd (cc)
 
 pub reading_is_the_grammar : ReadingIsTheGrammar
+unfolding spec_of
 reading_is_the_grammar = record {
   spelled = λ bytes spec. (read_is_spelled bytes spec, spelled_is_read);
   refused = λ bytes place. (refused_is_refused bytes place, refusal_is_refused bytes place);

@@ -1,3 +1,4 @@
 pub mod Numbers
 pub mod Readers
 pub mod Grammar
+pub mod Written

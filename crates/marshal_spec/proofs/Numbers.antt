@@ -65,13 +65,13 @@ few n xs h = lt-leb _ _ (omega arith)
 there : (x : ℕ) (xs : List ℕ) → nat_lt 0 (length (x ∷ xs)) ≡ true
 there x xs = lt-ltb _ _ (omega arith)
 
-at_one : (x : ℕ) (xs : List ℕ) → nat_lt x 0x80 ≡ true → compressed_at (x ∷ xs) 0 ≡ Some (compressed_of (x ∷ []) 1, 1)
+pub at_one : (x : ℕ) (xs : List ℕ) → nat_lt x 0x80 ≡ true → compressed_at (x ∷ xs) 0 ≡ Some (compressed_of (x ∷ []) 1, 1)
 at_one x xs a = rw (there x xs, a, enough 1 (x ∷ xs) (omega arith)) refl
 
-at_two : (x y : ℕ) (xs : List ℕ) → nat_lt x 0x80 ≡ false → nat_lt x 0xC0 ≡ true → compressed_at (x ∷ y ∷ xs) 0 ≡ Some (compressed_of (x ∷ y ∷ []) 2, 2)
+pub at_two : (x y : ℕ) (xs : List ℕ) → nat_lt x 0x80 ≡ false → nat_lt x 0xC0 ≡ true → compressed_at (x ∷ y ∷ xs) 0 ≡ Some (compressed_of (x ∷ y ∷ []) 2, 2)
 at_two x y xs a b = rw (there x (y ∷ xs), a, b, enough 2 (x ∷ y ∷ xs) (omega arith)) refl
 
-at_four : (x y z w : ℕ) (xs : List ℕ) → nat_lt x 0x80 ≡ false → nat_lt x 0xC0 ≡ false → nat_lt x 0xE0 ≡ true → compressed_at (x ∷ y ∷ z ∷ w ∷ xs) 0 ≡ Some (compressed_of (x ∷ y ∷ z ∷ w ∷ []) 4, 4)
+pub at_four : (x y z w : ℕ) (xs : List ℕ) → nat_lt x 0x80 ≡ false → nat_lt x 0xC0 ≡ false → nat_lt x 0xE0 ≡ true → compressed_at (x ∷ y ∷ z ∷ w ∷ xs) 0 ≡ Some (compressed_of (x ∷ y ∷ z ∷ w ∷ []) 4, 4)
 at_four x y z w xs a b c = rw (there x (y ∷ z ∷ w ∷ xs), a, b, c, enough 4 (x ∷ y ∷ z ∷ w ∷ xs) (omega arith)) refl
 
 cut_two : (x : ℕ) → nat_lt x 0x80 ≡ false → nat_lt x 0xC0 ≡ true → compressed_at (x ∷ []) 0 ≡ None

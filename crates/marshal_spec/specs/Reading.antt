@@ -91,7 +91,7 @@ rest_after code =
     else ended (Plain code)
 
 -- the descriptor that bytes spell, or where they are refused
-abbrev pub spec_read : List ℕ → Result Spec ℕ
+unfoldable pub spec_read : List ℕ → Result Spec ℕ
 spec_read bytes = byte_then is_first rest_after bytes 0
 
 abbrev pub value_of : Result Spec ℕ → Option Spec
@@ -99,5 +99,5 @@ value_of (Ok spec) = Some spec
 value_of (Err place) = None
 
 -- the descriptor that bytes spell
-abbrev pub spec_of : List ℕ → Option Spec
+unfoldable pub spec_of : List ℕ → Option Spec
 spec_of bytes = value_of (spec_read bytes)

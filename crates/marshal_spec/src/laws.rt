@@ -1,6 +1,6 @@
 //! What holds of all descriptors: a proof for all bytes, in a function that does nothing.
 
-ghost use Rattle.marshal_spec.specs.Laws.{ReadingIsTheGrammar, BytesSpellOne, RefusedByFront};
+ghost use Rattle.marshal_spec.specs.Laws.{ReadingIsTheGrammar, BytesSpellOne, WrittenIsRead, RefusedByFront};
 
 /// Reading, as the definitions of other crates have it, gives a descriptor exactly for its
 /// spellings, and refuses bytes exactly where the grammar does.
@@ -17,4 +17,9 @@ pub fn bytes_spell_one()
 /// the byte there, are refused alike.
 pub fn refused_by_front()
     ensures { RefusedByFront }
+{}
+
+/// What is written of a descriptor is read as that descriptor.
+pub fn written_is_read()
+    ensures { WrittenIsRead }
 {}

@@ -6,6 +6,8 @@ pub mod laws;
 pub mod native_types;
 mod reading;
 mod spec;
+mod writing;
 
 pub use reading::read_spec;
 pub use spec::{Spec, SpecBad};
+pub use writing::write_spec;

@@ -21,6 +21,7 @@ pub fn read_spec(b: &[u8]) -> Result<Spec, SpecBad>
     spec_in(b)
 }
 
+#[tactic(auto, unfolding(crate::specs::Reading::spec_read))]
 fn spec_in(b: &[u8]) -> Result<Spec, SpecBad>
     ensures { Reads refusal (λ spec. spec) result (spec_read b.now) }
 {
