@@ -4,12 +4,14 @@
 //! stands in `specs/Cycles.antt`, by walks alone.
 #![tactic(auto)]
 
+mod chains;
 mod first;
 mod graph;
 mod laws;
 mod numbering;
 mod search;
 
+pub use chains::after_steps;
 pub use first::first_on_cycle;
 pub use graph::Edge;
 pub use laws::{ranks_rule_out_cycles, walks_are_decided, walks_join};
