@@ -90,7 +90,7 @@ class Table:
     def enumeration(self, base):
         """An enum has one instance field, and that of an integer type."""
         fields = self.of.fields(base)
-        found = self.of.type_of(self.of.field_sign(fields[0])) if len(fields) == 1 else None
+        found = self.of.type_of(self.of.field_sign(fields[0][1])) if len(fields) == 1 else None
         return ("int", *INTEGERS[found[0]]) if found and found[1] == 0 and found[0] in INTEGERS else None
 
     # what stands in one place
@@ -215,7 +215,7 @@ class Table:
     def needs(self, node):
         """The structs and delegate types that a struct's fields or an Invoke's parameters and result are of."""
         if node[0] == "struct":
-            signs = [self.of.field_sign(it) for it in self.of.fields(node[1])]
+            signs = [self.of.field_sign(it) for _, it in self.of.fields(node[1])]
         else:
             invoke = self.invoke(node[1])
             signs = [invoke[1].result, *invoke[1].parameters] if invoke else []
@@ -229,7 +229,7 @@ class Table:
         if flags not in (SEQUENTIAL, EXPLICIT):
             return None
         forms, offsets = [], []
-        for owner, field in self.owned_fields(row):
+        for owner, field in self.of.fields(row):
             wide = self.of.row(TYPE_DEF, owner)[0] & FORMAT == UNICODE
             kind = self.kind_if_settled(self.of.field_sign(field))
             try:
@@ -240,14 +240,6 @@ class Table:
             offsets.append(written[0] if written else None)
         packing, least, _ = self.of.classes_layout.get(row, (0, 0, 0))
         return layout.struct(forms, flags == EXPLICIT, packing, least, offsets)
-
-    def owned_fields(self, row):
-        """The instance fields of a type, each with the type that it was written in."""
-        line = []
-        while isinstance(row, int):
-            line.append(row)
-            row = self.of.extends[row][0] if self.of.extends[row] else None
-        return [(owner, field) for owner in reversed(line) for field in self.of.own_fields(owner)]
 
     def kind_if_settled(self, sign):
         """The kind of a type; None where it, or its element, is a struct or delegate type that is not settled yet."""

@@ -199,12 +199,12 @@ class Assembly:
         return base != core and is_core_below(base, core)
 
     def fields(self, row):
-        """The instance fields of a type, those of what it extends first."""
+        """The instance fields of a type, those of what it extends first, each after the type that it was written in."""
         line = []
         while isinstance(row, int):
             line.append(row)
             row = self.extends[row][0] if self.extends[row] else None
-        return [field for it in reversed(line) for field in self.own_fields(it)]
+        return [(owner, field) for owner in reversed(line) for field in self.own_fields(owner)]
 
     def own_fields(self, row):
         return [it for it in self.run(TYPE_DEF, 4, FIELD, row) if not self.row(FIELD, it)[0] & STATIC]
