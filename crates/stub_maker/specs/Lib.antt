@@ -3,6 +3,7 @@ pub mod Callbacks
 pub mod Extents
 pub mod Facts
 pub mod Forms
+pub mod Laws
 pub mod Printed
 pub mod Rules
 pub mod Sized

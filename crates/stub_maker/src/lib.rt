@@ -3,6 +3,7 @@
 
 mod forms;
 mod kinds;
+pub mod laws;
 mod refused;
 mod stub;
 mod table;
