@@ -1,5 +1,5 @@
 -- The steps of a stub are numbered in order, and so are those chosen among them.
-use Rattle.std.proofs.Common.{◌≡◌, ℕ, zero, suc, ◌+◌, ◌≤◌, Bool, true, false, List, [], ◌∷◌, length, map, reverse, cond, ◌&&◌, Option, Some, None, Result, Ok, Err, refl, ap, sym, subst, arith, ◌∙◌}
+use Rattle.std.proofs.Common.{◌≡◌, ℕ, zero, suc, ◌+◌, ◌≤◌, Bool, true, false, List, [], ◌∷◌, length, map, cond, ◌&&◌, Option, Some, Result, Ok, Err, refl, ap, sym, subst, arith, ◌∙◌}
 use Rattle.std.specs.List.{range_with_len, filter}
 use Rattle.std.proofs.lemmas.List.{reverse-reverse}
 use Rattle.stub_maker.specs.declared.kinds.Passed.{Passed}
@@ -10,13 +10,12 @@ use Rattle.native_layout.specs.declared.shapes.Shape.{Shape}
 use Rattle.stub_maker.specs.declared.stub.Mark.{Mark}
 use Rattle.stub_maker.specs.declared.stub.Step.{Step}
 use Rattle.stub_maker.specs.declared.stub.Stub.{Stub}
-use Rattle.stub_maker.specs.declared.stub.Res.{Res}
 use Rattle.stub_maker.specs.declared.refused.Param.{Param}
 use Rattle.stub_maker.specs.declared.refused.Param.TheVariants.{Arg, Result as TheResult}
 use Rattle.stub_maker.specs.declared.refused.Why.{Why}
 use Rattle.stub_maker.specs.declared.refused.Why.TheVariants as why
 use Rattle.stub_maker.specs.Answers.{and_then, map_ok}
-use Rattle.stub_maker.specs.Shapes.{Known, Entry}
+use Rattle.stub_maker.specs.Shapes.{Known}
 use Rattle.stub_maker.specs.Steps.{argument_of}
 use Rattle.stub_maker.specs.Rules.{Imported, Marked, Refused, Signature, each_from, is_plain_signature, is_read_back, marked, may_lend, refused_at, returned, step_by, step_of, stub_by, stub_by_signature, stub_of, stub_of_signature, whole}
 use Rattle.stub_maker.specs.Laws.{IsOrderly, RiseFrom}

@@ -1,5 +1,5 @@
 -- Laws of stubs.
-use Rattle.std.specs.Prelude.{◌≡◌, ℕ, ◌+◌, ◌≤◌, List, [], ◌∷◌, length, map, reverse, Option, Some, Result, Ok}
+use Rattle.std.specs.Prelude.{◌≡◌, ℕ, ◌+◌, ◌≤◌, List, [], ◌∷◌, length, map, reverse, Some, Ok}
 use Rattle.std.specs.List.{range_with_len}
 use Rattle.stub_maker.specs.declared.kinds.Passed.{Passed}
 use Rattle.stub_maker.specs.declared.stub.Stub.{Stub}

@@ -1,5 +1,6 @@
 pub mod Answers
 pub mod Callbacks
+pub mod Examples
 pub mod Extents
 pub mod Facts
 pub mod Forms

@@ -1,9 +1,16 @@
 //! Laws of stubs: each function's contract is one.
 
+ghost use Rattle.stub_maker.specs.Examples.{RowsAreAnswered};
 ghost use Rattle.stub_maker.specs.Laws.{StubsAreOrderly};
 
 /// A stub has one step for each parameter, in order. Places and copies that native code may have written are read back, from
 /// left to right, and what ends does so from right to left.
 pub fn stubs_are_orderly()
     ensures { StubsAreOrderly }
+{}
+
+/// The definitions answer the rows that were worked out by hand: each row and each column of the marshalling table, and each
+/// reason for a refusal.
+pub fn rows_are_answered()
+    ensures { RowsAreAnswered }
 {}
