@@ -1,18 +1,16 @@
 -- Ranges within ranges are one range, and what is put there.
-use Rattle.std.proofs.Common.{◌≡◌, ℕ, suc, ◌+◌, ◌-◌, ◌<◌, ◌≤◌, Bool, true, false, List, [], ◌∷◌, ◌++◌, length, take, drop, Option, Some, None, refl, sym, ap, ◌∙◌, arith, rules, length-append, length-take, length-drop}
-use Rattle.std.specs.Prelude.{nat_le, if◌then◌else◌, slice_range, option_and_then, IsSomeAnd}
+use Rattle.std.proofs.Common.{◌≡◌, ℕ, ◌+◌, ◌≤◌, Bool, true, false, List, [], ◌∷◌, length, drop, Option, Some, None, refl, ap, ◌∙◌, arith, rules}
+use Rattle.std.specs.Prelude.{nat_le, slice_range, option_and_then, IsSomeAnd}
 use Rattle.std.proofs.Math.ListN.{drop_of_length-le}
 use Rattle.std.proofs.lemmas.Bool.{leb-true}
 use Rattle.std.proofs.lemmas.List.{append-nil, places, same_lists}
 use Rattle.managed_value.specs.declared.names.TypeId.{TypeId}
 use Rattle.managed_value.specs.declared.place.PathStep.{PathStep}
 use Rattle.managed_value.specs.declared.place.PathStep.TheVariants.{Field, Range}
-use Rattle.managed_value.specs.declared.kind.Kind.{Kind}
 use Rattle.managed_value.specs.declared.kind.Kind.TheVariants as kinds
-use Rattle.managed_value.specs.declared.value.Value
 use Rattle.managed_value.specs.declared.value.Value.{Value, out-Value}
 use Rattle.managed_value.specs.declared.value.Value.TheOpen.{Value-F}
-use Rattle.managed_value.specs.Parts.{kind_in, kind_of, bytes_in, flat_of, range_in, part, part_at, with_bytes, with_range, with_part, with_step, put, Fits, start_of, flat_bytes, flat_with}
+use Rattle.managed_value.specs.Parts.{kind_in, kind_of, bytes_in, flat_of, range_in, part_at, with_bytes, with_range, with_part, with_step, put, Fits, start_of, flat_bytes, flat_with}
 
 -- lists
 
@@ -56,8 +54,10 @@ unfolding out-Value denote.Hole.Carrier.out
 range_step t bytes at n path new b there i =
     let size : length (slice_range bytes at (at + n)) ≡ n = length-slice_range bytes at n there in
     let room : start_of path + length b ≤ n = omega (arith, i.fits, size) in
-    record { fits = omega (arith, room);
-      after_is = rw (i.after_is, within_range bytes b at n (start_of path) there room) refl }
+    record {
+      fits = omega (arith, room);
+      after_is = rw (i.after_is, within_range bytes b at n (start_of path) there room) refl;
+    }
 
 bytes_put_by : (t : TypeId) (bytes : List ℕ) (at n : ℕ) (path : List PathStep) (new : Value) (y : Value-F Value) (fit : Bool) → nat_le (at + n) (length bytes) ≡ fit → ((bytes : List ℕ) → IsSomeAnd (part_at (Value.Flat t bytes) path) (λ old. kind_of old ≡ kind_in y) → InBytes t bytes path (put (Value.Flat t bytes) path new) (flat_bytes y)) → IsSomeAnd (part_at (Value.Flat t bytes) (Range at n ∷ path)) (λ old. kind_of old ≡ kind_in y) → InBytes t bytes (Range at n ∷ path) (put (Value.Flat t bytes) (Range at n ∷ path) new) (flat_bytes y)
 unfolding out-Value denote.Hole.Carrier.out
@@ -88,8 +88,10 @@ range_put_flat v new at n path t bytes y true is fit h =
     let i = bytes_put path t (slice_range bytes at (at + n)) new y is (rw fit at h) in
     let size : length (slice_range bytes at (at + n)) ≡ n = length-slice_range bytes at n there in
     let room : start_of path + length (flat_bytes y) ≤ n = omega (arith, i.fits, size) in
-    rw fit (record { fits = omega (arith, room);
-      after_is = rw (i.after_is, within_range bytes (flat_bytes y) at n (start_of path) there room) refl })
+    rw fit (record {
+      fits = omega (arith, room);
+      after_is = rw (i.after_is, within_range bytes (flat_bytes y) at n (start_of path) there room) refl;
+    })
 range_put_flat v new at n path t bytes y false is fit h = absurd (rw fit at h)
 
 range_put_by : (v new : Value) (at n : ℕ) (path : List PathStep) (x y : Value-F Value) → out-Value new ≡ y → IsSomeAnd (option_and_then (λ w. part_at w path) (range_in at n x)) (λ old. kind_of old ≡ kind_in y) → RangePut v new (made_by v at (range_in at n x) new path x) (Range at n ∷ path) x y

@@ -1,8 +1,4 @@
 -- What the code's parts show.
-use Rattle.std.specs.Prelude.{ℕ, List}
-use Rattle.std.specs.Borrow.{Bor}
-use Rattle.managed_value.specs.declared.names.TypeId.{TypeId}
-use Rattle.managed_value.specs.declared.value.Value
 use Rattle.managed_value.specs.declared.value.Value.{Value}
 use Rattle.managed_value.specs.declared.parts.Part.{Part}
 use Rattle.managed_value.specs.declared.parts.Part.TheVariants as parts

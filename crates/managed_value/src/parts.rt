@@ -70,7 +70,6 @@ fn copy_of_items<T: Copy>(alloc: Global, items: &[T]) -> Result<Items<T>, NoMemo
     Ok(copy)
 }
 
-
 /// The value at a path, copied; None exactly where the path leads to none.
 pub fn get_at(alloc: Global, v: &Value, path: &Path) -> Result<Option<Value>, NoMemory>
     ensures { IfOk result (λ found. found ≡ part_at v.now path.now) }
