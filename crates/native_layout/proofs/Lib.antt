@@ -1,1 +1,5 @@
+pub mod Counts
+pub mod Folds
 pub mod Numbers
+pub mod Positions
+pub mod Structs

@@ -1,4 +1,4 @@
 pub mod Struct
 pub mod Shapes
-pub mod Placed
 pub mod Answer
+pub mod Placed

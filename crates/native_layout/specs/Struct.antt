@@ -1,9 +1,10 @@
 -- Where the fields of a struct lie, and when a struct can't be laid out (ECMA-335 II.10.7; ClassLayout, II.22.8;
 -- FieldLayout, II.22.16).
-use Rattle.std.specs.Prelude.{ℕ, ◌+◌, ◌-◌, ◌*◌, ◌/◌, ◌^◌, min, max, Bool, not, ◌&&◌, ◌==◌, nat_lt, if◌then◌else◌, List, [], ◌∷◌, map, length, slice_get, slice_index_or, Option, Some, None, is_none, unwrap_or}
-use Rattle.std.specs.List.{list_all, list_any, position, range_with_len, zip}
+use Rattle.std.specs.Prelude.{ℕ, ◌+◌, ◌-◌, ◌*◌, ◌/◌, ◌^◌, min, max, Bool, not, ◌&&◌, ◌==◌, nat_lt, if◌then◌else◌, List, [], ◌∷◌, map, length, slice_get, Option, Some, None, is_none, unwrap_or}
+use Rattle.std.specs.List.{list_all, list_any, count_by, position, range_with_len}
 use Rattle.std.specs.Option.{option_and_then}
 use Rattle.native_layout.specs.declared.extent.Extent.{Extent}
+use Rattle.native_layout.specs.declared.extent.Range.{Range}
 
 -- what is known of a shape
 pub record Measure : Type 0 where
@@ -20,11 +21,6 @@ pub record Struct : Type 0 where
   pub explicit : Bool
   pub fields : List Measure
   pub offsets : List (Option ℕ)
-
--- the bytes from a start up to an end
-pub record Range : Type 0 where
-  pub start : ℕ
-  pub end : ℕ
 
 -- the greatest of some numbers, at least another one
 abbrev pub greatest : ℕ → List ℕ → ℕ
@@ -57,14 +53,20 @@ in_sequence pack end (e ∷ es) =
     let start = aligned end (field_align pack e) in
     (record { start = start; end = start + e.size }) ∷ in_sequence pack (start + e.size) es
 
+-- the offset that is written for a field
+abbrev pub offset_at : List (Option ℕ) → ℕ → Option ℕ
+offset_at offsets k = option_and_then (λ o. o) (slice_get offsets k)
+
 -- the offsets that are written for the first n fields
 abbrev pub written : List (Option ℕ) → ℕ → List (Option ℕ)
-written offsets n = map (λ k. option_and_then (λ o. o) (slice_get offsets k)) (range_with_len 0 n)
+written offsets n = map (offset_at offsets) (range_with_len 0 n)
 
 -- each field at its offset
 abbrev pub at_offsets : List (Option ℕ) → List Extent → List Range
-at_offsets offsets es =
-    map (λ f. record { start = unwrap_or f.0 0; end = unwrap_or f.0 0 + f.1.size }) (zip offsets es)
+at_offsets [] es = []
+at_offsets (o ∷ os) [] = []
+at_offsets (o ∷ os) (e ∷ es) =
+    (record { start = unwrap_or o 0; end = unwrap_or o 0 + e.size }) ∷ at_offsets os es
 
 abbrev pub extents : Struct → List Extent
 extents s = map (λ m. m.extent) s.fields
@@ -88,15 +90,13 @@ struct_size s = max s.least (aligned (greatest 0 (map (λ r. r.end) (ranges s)))
 abbrev pub share_a_byte : Range → Range → Bool
 share_a_byte a b = nat_lt (max a.start b.start) (min a.end b.end)
 
--- a field has a byte in common with another one
-abbrev pub overlaps_another : List Range → ℕ → Bool
-overlaps_another rs k =
-    let none : Range = record { start = 0; end = 0 } in
-    list_any (λ j. not (j == k) && share_a_byte (slice_index_or rs k none) (slice_index_or rs j none)) (range_with_len 0 (length rs))
+-- a field has a byte in common with more than one field, itself counted
+abbrev pub overlaps_another : List Range → Range → Bool
+overlaps_another rs r = nat_lt 1 (count_by (share_a_byte r) rs)
 
 -- the first field that overlaps another one
 abbrev pub first_overlap : List Range → Option ℕ
-first_overlap rs = position (overlaps_another rs) (range_with_len 0 (length rs))
+first_overlap rs = position (overlaps_another rs) rs
 
 abbrev pub is_integral : Struct → Bool
 is_integral s = list_all (λ m. m.integral) s.fields
@@ -114,6 +114,10 @@ first_some (None ∷ os) = first_some os
 abbrev pub broken_where : Bool → Option ℕ
 broken_where holds = if holds then Some 0 else None
 
+-- the first field that overlaps another one, where fields lie at their offsets and there are not only integers
+abbrev pub overlap_of : Struct → Option ℕ
+overlap_of s = if s.explicit && not (is_integral s) then first_overlap (ranges s) else None
+
 -- The first field that breaks the first broken rule: a struct within that can't be laid out; no fields; a packing that is
 -- none; no offset where each must have one; an overlap of written offsets, unless there are only integers; a size that is
 -- too great. Fields in sequence never overlap.
@@ -123,7 +127,7 @@ broken s =
     ∷ broken_where (length s.fields == 0)
     ∷ broken_where (not (is_packing s.pack))
     ∷ (if s.explicit then position is_none (written s.offsets (length s.fields)) else None)
-    ∷ (if s.explicit && not (is_integral s) then first_overlap (ranges s) else None)
+    ∷ overlap_of s
     ∷ broken_where (nat_lt largest (struct_size s))
     ∷ [])
 

@@ -8,3 +8,10 @@ pub struct Extent {
     /// The alignment in bytes: its address is a multiple of it.
     pub align: u64,
 }
+
+/// The bytes of a field in its struct, from a start up to an end.
+#[derive(Clone, Copy, Debug, PartialEq, Eq)]
+pub struct Range {
+    pub start: u64,
+    pub end: u64,
+}

@@ -3,12 +3,16 @@
 
 mod contents;
 mod extent;
+mod layouts;
+mod offsets;
+mod overlap;
 mod placing;
 mod refused;
 mod shapes;
 
 pub use contents::{MOST_PARTS, has_pointer_cells, has_texts, is_flat, scalar_parts};
 pub use extent::Extent;
+pub use layouts::layout;
 pub use placing::LARGEST_STRUCT;
 pub use refused::LayoutBad;
 pub use shapes::{Enc, Layout, Offsets, Shape, Shapes, StructShape};
