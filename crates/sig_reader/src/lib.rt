@@ -2,6 +2,8 @@
 #![tactic(auto)]
 
 mod bad;
+mod elements;
+mod numbers;
 mod signature;
 
 pub use bad::SigBad;

@@ -1,0 +1,4 @@
+pub mod Readers
+pub mod NumberReaders
+pub mod Prefixes
+pub mod TypeReaders
