@@ -1,4 +1,5 @@
 pub mod Readers
 pub mod NumberReaders
-pub mod Prefixes
+pub mod ModifierReaders
 pub mod TypeReaders
+pub mod Lists

@@ -1,12 +1,12 @@
 -- Compressed numbers are read as the grammar has them.
-use Rattle.std.proofs.Common.{◌≡◌, ℕ, zero, suc, ◌+◌, ◌-◌, ◌*◌, ◌%◌, ◌<◌, ◌≤◌, Bool, true, false, cond, ◌&&◌, not, List, [], ◌∷◌, ◌++◌, length, Result, Ok, Err, refl, sym, ◌∙◌, ap, subst, append_assoc, arith}
-use Rattle.std.specs.Prelude.{MatchBool, nat_lt, nat_le, ◌==◌, if◌then◌else◌}
+use Rattle.std.proofs.Common.{◌≡◌, ℕ, zero, suc, ◌+◌, ◌-◌, ◌*◌, ◌%◌, ◌≤◌, Bool, true, false, cond, not, List, [], ◌∷◌, ◌++◌, Ok, refl, sym, ◌∙◌, ap, arith}
+use Rattle.std.specs.Prelude.{MatchBool, nat_lt, ◌==◌}
 use Rattle.std.proofs.lemmas.Bool.Decides.{nat_tests}
 use Rattle.sig_reader.specs.declared.numbers.Numbers.{Numbers}
 use Rattle.sig_reader.specs.declared.numbers.Numbers.TheVariants.{Between, Coded}
-use Rattle.sig_reader.specs.Numbers.{allows, any_number, IsCompressed, token_of, signed_of}
-use Rattle.sig_reader.specs.Grammar.{Joined, ◌▷◌, Gives, IsByte, IsNumber, IsUnsigned, IsSigned, IsToken}
-use Rattle.sig_reader.specs.Reading.{Read, byte_where, may_take, opens, two_bytes_in, four_bytes_in, number_after, number_in, unsigned_in, signed_in, token_in}
+use Rattle.sig_reader.specs.Numbers.{allows, any_number, token_of, signed_of}
+use Rattle.sig_reader.specs.Grammar.{◌▷◌, Gives, IsByte, IsNumber, IsUnsigned, IsSigned, IsToken}
+use Rattle.sig_reader.specs.Reading.{byte_where, may_take, opens, two_bytes_in, four_bytes_in, number_after, number_in, unsigned_in, signed_in, token_in}
 use Rattle.sig_reader.proofs.Readers.{Reader, gives, joined, same_relation, branch, byte}
 
 -- the place takes a number, and 1 where it doesn't take 0
@@ -79,12 +79,12 @@ four_bytes numbers o a h =
     joined (IsByte (λ b. may_take numbers (((a - 0xC0) * 256 + b) * 0x10000))) _ _ _
     (byte _ 0 (ap (may_take numbers) second ∙ h))
     (λ b front s.
-        let third : (((a - 0xC0) * 256 + b) * 256 + 0) * 256 ≡ ((a - 0xC0) * 256 + b) * 0x10000 = omega arith in
-        joined (IsByte (λ c. may_take numbers ((((a - 0xC0) * 256 + b) * 256 + c) * 256))) _ _ _
-        (byte _ 0 (ap (may_take numbers) third ∙ s.1))
-        (λ c front s.
-            let d = last_byte numbers o (((a - 0xC0) * 256 + b) * 256 + c) s.1 in
-            joined (IsByte (λ d. allows numbers (four a b c d))) _ _ _ (byte _ d.0 d.1) (λ d front s. gives (four a b c d, 4))))
+    let third : (((a - 0xC0) * 256 + b) * 256 + 0) * 256 ≡ ((a - 0xC0) * 256 + b) * 0x10000 = omega arith in
+    joined (IsByte (λ c. may_take numbers ((((a - 0xC0) * 256 + b) * 256 + c) * 256))) _ _ _
+    (byte _ 0 (ap (may_take numbers) third ∙ s.1))
+    (λ c front s.
+    let d = last_byte numbers o (((a - 0xC0) * 256 + b) * 256 + c) s.1 in
+    joined (IsByte (λ d. allows numbers (four a b c d))) _ _ _ (byte _ d.0 d.1) (λ d front s. gives (four a b c d, 4))))
 
 opens_by : (numbers : Numbers) (a : ℕ) (small medium large : Bool) → cond small (allows numbers a) (cond medium (may_take numbers ((a - 0x80) * 256)) (cond large (may_take numbers ((a - 0xC0) * 0x1000000)) false)) ≡ true → small ≡ false → ((medium ≡ true) → may_take numbers ((a - 0x80) * 256) ≡ true) × ((medium ≡ false) → (large ≡ true) × (may_take numbers ((a - 0xC0) * 0x1000000) ≡ true))
 opens_by numbers a true medium large h s = absurd cc
@@ -96,10 +96,10 @@ opens_by numbers a false false false h s = absurd cc
 more_bytes : (numbers : Numbers) → IsOpen numbers → (a : ℕ) → opens numbers a ≡ true → Reader (AreMore numbers a) (number_after numbers a)
 more_bytes numbers o a h =
     branch (nat_lt a 0x80) (λ small. gives (a, 1)) (λ large.
-        let parts = opens_by numbers a (nat_lt a 0x80) (nat_lt a 0xC0) (nat_lt a 0xE0) h large in
-        branch (nat_lt a 0xC0)
-        (λ medium. two_bytes numbers o a (parts.0 medium))
-        (λ huge. four_bytes numbers o a (parts.1 huge).1))
+    let parts = opens_by numbers a (nat_lt a 0x80) (nat_lt a 0xC0) (nat_lt a 0xE0) h large in
+    branch (nat_lt a 0xC0)
+    (λ medium. two_bytes numbers o a (parts.0 medium))
+    (λ huge. four_bytes numbers o a (parts.1 huge).1))
 
 abbrev AreBytes : Numbers → List ℕ → ℕ × ℕ → Type 0
 AreBytes numbers = IsByte (opens numbers) ▷ AreMore numbers
@@ -115,7 +115,7 @@ bytes_of numbers o =
 to_more : (numbers : Numbers) (a : ℕ) (back : List ℕ) (x : ℕ × ℕ) (small medium : Bool) → opens numbers a ≡ true → nat_lt a 0x80 ≡ small → nat_lt a 0xC0 ≡ medium → MatchBool small (Gives (a, 1) back x) (MatchBool medium (AreTwo numbers a back x) (AreFour numbers a back x)) → IsNumber numbers (a ∷ back) x
 to_more numbers a back x true medium o s m g =
     let taken : allows numbers a ≡ true =
-        ap (λ b. cond b (allows numbers a) (cond (nat_lt a 0xC0) (may_take numbers ((a - 0x80) * 256)) (cond (nat_lt a 0xE0) (may_take numbers ((a - 0xC0) * 0x1000000)) false))) (sym s) ∙ o in
+    ap (λ b. cond b (allows numbers a) (cond (nat_lt a 0xC0) (may_take numbers ((a - 0x80) * 256)) (cond (nat_lt a 0xE0) (may_take numbers ((a - 0xC0) * 0x1000000)) false))) (sym s) ∙ o in
     rw (g.0, g.1) ((s, refl), taken)
 to_more numbers a back x false true o s m j =
     let w : back ≡ j.first ∷ [] = j.whole ∙ ap (λ f. f ++ j.back) j.begins.0 ∙ ap (λ r. j.first ∷ r) j.goes_on.0 in
@@ -139,19 +139,30 @@ from_number numbers [] x s = absurd s.0
 from_number numbers (a ∷ []) x s =
     let taken : allows numbers a ≡ true = ap (λ v. allows numbers v.0) (sym s.0.1) ∙ s.1 in
     record {
-      front = a ∷ []; back = []; first = a; whole = refl;
+      front = a ∷ [];
+      back = [];
+      first = a;
+      whole = refl;
       begins = (refl, rw s.0.0 taken);
-      goes_on = rw s.0.0 (refl, s.0.1)
+      goes_on = rw s.0.0 (refl, s.0.1);
     }
 from_number numbers (a ∷ b ∷ []) x s =
     let taken : allows numbers (two a b) ≡ true = ap (λ v. allows numbers v.0) (sym s.0.2) ∙ s.1 in
     let opened : may_take numbers ((a - 0x80) * 256) ≡ true = may_begin numbers (two a b) ((a - 0x80) * 256) (omega arith) taken in
     record {
-      front = a ∷ []; back = b ∷ []; first = a; whole = refl;
+      front = a ∷ [];
+      back = b ∷ [];
+      first = a;
+      whole = refl;
       begins = (refl, rw (s.0.0, s.0.1) opened);
       goes_on = rw (s.0.0, s.0.1) (record {
-        front = b ∷ []; back = []; first = b; whole = refl; begins = (refl, taken); goes_on = (refl, s.0.2)
-      })
+        front = b ∷ [];
+        back = [];
+        first = b;
+        whole = refl;
+        begins = (refl, taken);
+        goes_on = (refl, s.0.2);
+      });
     }
 from_number numbers (a ∷ b ∷ c ∷ []) x s = absurd s.0
 from_number numbers (a ∷ b ∷ c ∷ d ∷ []) x s =
@@ -160,17 +171,33 @@ from_number numbers (a ∷ b ∷ c ∷ d ∷ []) x s =
     let second : may_take numbers (((a - 0xC0) * 256 + b) * 0x10000) ≡ true = may_begin numbers (four a b c d) _ (omega arith) taken in
     let third : may_take numbers ((((a - 0xC0) * 256 + b) * 256 + c) * 256) ≡ true = may_begin numbers (four a b c d) _ (omega arith) taken in
     record {
-      front = a ∷ []; back = b ∷ c ∷ d ∷ []; first = a; whole = refl;
+      front = a ∷ [];
+      back = b ∷ c ∷ d ∷ [];
+      first = a;
+      whole = refl;
       begins = (refl, rw (s.0.0, s.0.1, s.0.2) first);
       goes_on = rw (s.0.0, s.0.1) (record {
-        front = b ∷ []; back = c ∷ d ∷ []; first = b; whole = refl; begins = (refl, second);
+        front = b ∷ [];
+        back = c ∷ d ∷ [];
+        first = b;
+        whole = refl;
+        begins = (refl, second);
         goes_on = record {
-          front = c ∷ []; back = d ∷ []; first = c; whole = refl; begins = (refl, third);
+          front = c ∷ [];
+          back = d ∷ [];
+          first = c;
+          whole = refl;
+          begins = (refl, third);
           goes_on = record {
-            front = d ∷ []; back = []; first = d; whole = refl; begins = (refl, taken); goes_on = (refl, s.0.3)
-          }
-        }
-      })
+            front = d ∷ [];
+            back = [];
+            first = d;
+            whole = refl;
+            begins = (refl, taken);
+            goes_on = (refl, s.0.3);
+          };
+        };
+      });
     }
 from_number numbers (a ∷ b ∷ c ∷ d ∷ e ∷ bytes) x s = absurd s.0
 

@@ -1,16 +1,10 @@
 -- What a function that reads is to a relation between bytes and values, and how both are built from
 -- parts.
-use Rattle.std.proofs.Common.{◌≡◌, ℕ, zero, suc, ◌+◌, ◌<◌, Bool, true, false, cond, List, [], ◌∷◌, ◌++◌, length, Result, Ok, Err, ◌⊎◌, inl, inr, refl, sym, ◌∙◌, ap, subst, append_assoc, arith}
+use Rattle.std.proofs.Common.{◌≡◌, ℕ, zero, suc, ◌<◌, Bool, true, false, cond, List, [], ◌∷◌, ◌++◌, length, Result, Ok, Err, ◌⊎◌, inl, inr, refl, sym, ◌∙◌, ap, subst, append_assoc, arith}
 use Rattle.std.specs.Prelude.{MatchBool}
 use Rattle.byte_view.specs.Reading.{◌>>=◌}
-use Rattle.sig_reader.specs.Grammar.{Joined, ◌▷◌, Gives, IsByte, Chosen, Exactly}
-use Rattle.sig_reader.specs.Reading.{Read, byte_in, byte_where, comes, after_first, chosen, many}
-
--- the front goes on to a spelling
-pub record Viable {A : Type 0} (R : List ℕ → A → Type 0) (front : List ℕ) : Type 0 where
-  pub more : List ℕ
-  pub value : A
-  pub spells : R (front ++ more) value
+use Rattle.sig_reader.specs.Grammar.{Begins, ◌▷◌, Gives, IsByte, Chosen, Exactly}
+use Rattle.sig_reader.specs.Reading.{Read, byte_where, chosen, many}
 
 -- a value was found, with bytes left after it
 pub record Found {A : Type 0} (R : List ℕ → A → Type 0) (bytes : List ℕ) (x : A) (rest : List ℕ) : Type 0 where
@@ -25,12 +19,12 @@ pub record Stops {A : Type 0} (R : List ℕ → A → Type 0) (p : List ℕ → 
   pub back : List ℕ
   pub whole : bytes ≡ front ++ back
   pub size : length back ≡ left
-  pub viable : Viable R front
+  pub viable : Begins R front
   pub blocked : (c : ℕ) (tail other : List ℕ) → back ≡ c ∷ tail → p (front ++ c ∷ other) ≡ Err (suc (length other))
 
 -- the function reads just what the relation has
 pub record Reader {A : Type 0} (R : List ℕ → A → Type 0) (p : List ℕ → Read A) : Type 0 where
-  pub some : Viable R []
+  pub some : Begins R []
   pub sound : (bytes : List ℕ) (x : A) (rest : List ℕ) → p bytes ≡ Ok (x, rest) → Found R bytes x rest
   pub complete : (front rest : List ℕ) (x : A) → R front x → p (front ++ rest) ≡ Ok (x, rest)
   pub stops : (bytes : List ℕ) (left : ℕ) → p bytes ≡ Err left → Stops R p bytes left
@@ -60,7 +54,9 @@ pub gives : {A : Type 0} (v : A) → Reader (Gives v) (λ bytes. Ok (v, bytes))
 gives v = record {
   some = record { more = []; value = v; spells = (refl, refl) };
   sound = λ bytes x rest e. record {
-    front = []; whole = ap (λ r. r.1) (ok_inj e); spells = (refl, sym (ap (λ r. r.0) (ok_inj e)))
+    front = [];
+    whole = ap (λ r. r.1) (ok_inj e);
+    spells = (refl, sym (ap (λ r. r.0) (ok_inj e)));
   };
   complete = λ front rest x s. rw (s.0, s.1) refl;
   stops = λ bytes left e. absurd (ok_is_no_err e);
@@ -71,13 +67,14 @@ module _ {A B : Type 0} (R : List ℕ → A → Type 0) (S : A → List ℕ → 
   joined_in : List ℕ → Read B
   joined_in bytes = p bytes >>= λ r. q r.0 r.1
 
-  joined_some : Viable (R ▷ S) []
+  joined_some : Begins (R ▷ S) []
   joined_some =
       let s = P.some in
       let t = (Q s.value s.more s.spells).some in
       record {
-        more = s.more ++ t.more; value = t.value;
-        spells = record { front = s.more; back = t.more; first = s.value; whole = refl; begins = s.spells; goes_on = t.spells }
+        more = s.more ++ t.more;
+        value = t.value;
+        spells = record { front = s.more; back = t.more; first = s.value; whole = refl; begins = s.spells; goes_on = t.spells };
       }
 
   joined_sound : (bytes : List ℕ) (y : B) (rest : List ℕ) → joined_in bytes ≡ Ok (y, rest) → Found (R ▷ S) bytes y rest
@@ -89,7 +86,7 @@ module _ {A B : Type 0} (R : List ℕ → A → Type 0) (S : A → List ℕ → 
       record {
         front = f.front ++ g.front;
         whole = f.whole ∙ ap (λ r. f.front ++ r) g.whole ∙ sym (append_assoc f.front g.front rest);
-        spells = record { front = f.front; back = g.front; first = b.0.0; whole = refl; begins = f.spells; goes_on = g.spells }
+        spells = record { front = f.front; back = g.front; first = b.0.0; whole = refl; begins = f.spells; goes_on = g.spells };
       }
 
   -- what is read where the first part is found
@@ -110,13 +107,21 @@ module _ {A B : Type 0} (R : List ℕ → A → Type 0) (S : A → List ℕ → 
       let v = s.viable in
       let t = (Q v.value (s.front ++ v.more) v.spells).some in
       record {
-        front = s.front; back = s.back; whole = s.whole; size = s.size;
+        front = s.front;
+        back = s.back;
+        whole = s.whole;
+        size = s.size;
         viable = record {
-          more = v.more ++ t.more; value = t.value;
+          more = v.more ++ t.more;
+          value = t.value;
           spells = record {
-            front = s.front ++ v.more; back = t.more; first = v.value;
-            whole = sym (append_assoc s.front v.more t.more); begins = v.spells; goes_on = t.spells
-          }
+            front = s.front ++ v.more;
+            back = t.more;
+            first = v.value;
+            whole = sym (append_assoc s.front v.more t.more);
+            begins = v.spells;
+            goes_on = t.spells;
+          };
         };
         blocked = λ c tail other b. ap (λ m. m >>= λ r. q r.0 r.1) (s.blocked c tail other b);
       }
@@ -126,15 +131,21 @@ module _ {A B : Type 0} (R : List ℕ → A → Type 0) (S : A → List ℕ → 
       let f = P.sound bytes r.0 r.1 e in
       let s = (Q r.0 f.front f.spells).stops r.1 left d in
       record {
-        front = f.front ++ s.front; back = s.back;
+        front = f.front ++ s.front;
+        back = s.back;
         whole = f.whole ∙ ap (λ b. f.front ++ b) s.whole ∙ sym (append_assoc f.front s.front s.back);
         size = s.size;
         viable = record {
-          more = s.viable.more; value = s.viable.value;
+          more = s.viable.more;
+          value = s.viable.value;
           spells = record {
-            front = f.front; back = s.front ++ s.viable.more; first = r.0;
-            whole = append_assoc f.front s.front s.viable.more; begins = f.spells; goes_on = s.viable.spells
-          }
+            front = f.front;
+            back = s.front ++ s.viable.more;
+            first = r.0;
+            whole = append_assoc f.front s.front s.viable.more;
+            begins = f.spells;
+            goes_on = s.viable.spells;
+          };
         };
         blocked = λ c tail other b.
             ap joined_in (append_assoc f.front s.front (c ∷ other))
@@ -146,7 +157,7 @@ module _ {A B : Type 0} (R : List ℕ → A → Type 0) (S : A → List ℕ → 
   unfolding joined_in
   joined_stops bytes left e =
       elim (bind_err (p bytes) (λ r. q r.0 r.1) left e) [
-        inl h ↦ joined_first bytes left h
+        | inl h ↦ joined_first bytes left h
         | inr h ↦ joined_second bytes left h.0 h.1 h.2
       ]
 
@@ -165,9 +176,12 @@ same_relation to from P = record {
   stops = λ bytes left e.
       let s = P.stops bytes left e in
       record {
-        front = s.front; back = s.back; whole = s.whole; size = s.size;
+        front = s.front;
+        back = s.back;
+        whole = s.whole;
+        size = s.size;
         viable = record { more = s.viable.more; value = s.viable.value; spells = to _ _ s.viable.spells };
-        blocked = s.blocked
+        blocked = s.blocked;
       };
 }
 
@@ -182,8 +196,9 @@ module _ (passes : ℕ → Bool) where
   byte_found c bytes true t x rest e =
       let h = ok_inj e in
       record {
-        front = c ∷ []; whole = ap (λ r. c ∷ r) (ap (λ r. r.1) h);
-        spells = (ap (λ v. v ∷ []) (ap (λ r. r.0) h), subst (λ v. passes v ≡ true) (ap (λ r. r.0) h) t)
+        front = c ∷ [];
+        whole = ap (λ r. c ∷ r) (ap (λ r. r.1) h);
+        spells = (ap (λ v. v ∷ []) (ap (λ r. r.0) h), subst (λ v. passes v ≡ true) (ap (λ r. r.0) h) t);
       }
   byte_found c bytes false t x rest e = absurd (err_is_no_ok e)
 
@@ -191,25 +206,34 @@ module _ (passes : ℕ → Bool) where
   byte_sound [] x rest e = absurd (err_is_no_ok e)
   byte_sound (c ∷ bytes) x rest e = byte_found c bytes (passes c) refl x rest e
 
-  byte_stuck : (some : Viable (IsByte passes) []) (c : ℕ) (bytes : List ℕ) (b : Bool) → passes c ≡ b → (left : ℕ) → ◌≡◌ {A = Read ℕ} (cond b (Ok (c, bytes)) (Err (suc (length bytes)))) (Err left) → Stops (IsByte passes) (byte_where passes) (c ∷ bytes) left
+  byte_stuck : (some : Begins (IsByte passes) []) (c : ℕ) (bytes : List ℕ) (b : Bool) → passes c ≡ b → (left : ℕ) → ◌≡◌ {A = Read ℕ} (cond b (Ok (c, bytes)) (Err (suc (length bytes)))) (Err left) → Stops (IsByte passes) (byte_where passes) (c ∷ bytes) left
   byte_stuck some c bytes true t left e = absurd (ok_is_no_err e)
   byte_stuck some c bytes false t left e = record {
-    front = []; back = c ∷ bytes; whole = refl; size = err_inj e; viable = some;
+    front = [];
+    back = c ∷ bytes;
+    whole = refl;
+    size = err_inj e;
+    viable = some;
     blocked = λ d tail other h.
         let g : c ≡ d = cc in
         let f : passes d ≡ false = ap passes (sym g) ∙ t in
-        ap (λ v. cond v (Ok (d, other)) (Err (suc (length other)))) f
+        ap (λ v. cond v (Ok (d, other)) (Err (suc (length other)))) f;
   }
 
-  byte_stops : (some : Viable (IsByte passes) []) (bytes : List ℕ) (left : ℕ) → byte_where passes bytes ≡ Err left → Stops (IsByte passes) (byte_where passes) bytes left
+  byte_stops : (some : Begins (IsByte passes) []) (bytes : List ℕ) (left : ℕ) → byte_where passes bytes ≡ Err left → Stops (IsByte passes) (byte_where passes) bytes left
   byte_stops some [] left e = record {
-    front = []; back = []; whole = refl; size = err_inj e; viable = some; blocked = λ c tail other h. absurd cc
+    front = [];
+    back = [];
+    whole = refl;
+    size = err_inj e;
+    viable = some;
+    blocked = λ c tail other h. absurd cc;
   }
   byte_stops some (c ∷ bytes) left e = byte_stuck some c bytes (passes c) refl left e
 
   pub byte : (c : ℕ) → passes c ≡ true → Reader (IsByte passes) (byte_where passes)
   byte c t =
-      let some : Viable (IsByte passes) [] = record { more = c ∷ []; value = c; spells = (refl, t) } in
+      let some : Begins (IsByte passes) [] = record { more = c ∷ []; value = c; spells = (refl, t) } in
       record {
         some = some;
         sound = byte_sound;
@@ -233,8 +257,9 @@ module _ {A : Type 0} (passes : ℕ → Bool) (R S : List ℕ → A → Type 0) 
   chosen_found c bytes true t x rest e =
       let f = P.sound bytes x rest e in
       record {
-        front = c ∷ f.front; whole = ap (λ r. c ∷ r) f.whole;
-        spells = subst (λ b. MatchBool b (R f.front x) (S (c ∷ f.front) x)) (sym t) f.spells
+        front = c ∷ f.front;
+        whole = ap (λ r. c ∷ r) f.whole;
+        spells = subst (λ b. MatchBool b (R f.front x) (S (c ∷ f.front) x)) (sym t) f.spells;
       }
   chosen_found c bytes false t x rest e =
       let f = Q.sound (c ∷ bytes) x rest e in
@@ -274,41 +299,55 @@ module _ {A : Type 0} (passes : ℕ → Bool) (R S : List ℕ → A → Type 0) 
   chosen_stuck c bytes true t left e =
       let s = P.stops bytes left e in
       record {
-        front = c ∷ s.front; back = s.back; whole = ap (λ r. c ∷ r) s.whole; size = s.size;
+        front = c ∷ s.front;
+        back = s.back;
+        whole = ap (λ r. c ∷ r) s.whole;
+        size = s.size;
         viable = record {
-          more = s.viable.more; value = s.viable.value;
-          spells = subst (λ b. MatchBool b (R (s.front ++ s.viable.more) s.viable.value) (S (c ∷ s.front ++ s.viable.more) s.viable.value)) (sym t) s.viable.spells
+          more = s.viable.more;
+          value = s.viable.value;
+          spells = subst (λ b. MatchBool b (R (s.front ++ s.viable.more) s.viable.value) (S (c ∷ s.front ++ s.viable.more) s.viable.value)) (sym t) s.viable.spells;
         };
-        blocked = λ d tail other b. ap (λ v. cond v (p (s.front ++ d ∷ other)) (q (c ∷ s.front ++ d ∷ other))) t ∙ s.blocked d tail other b
+        blocked = λ d tail other b. ap (λ v. cond v (p (s.front ++ d ∷ other)) (q (c ∷ s.front ++ d ∷ other))) t ∙ s.blocked d tail other b;
       }
   chosen_stuck c bytes false t left e =
       let s = Q.stops (c ∷ bytes) left e in
       record {
-        front = s.front; back = s.back; whole = s.whole; size = s.size;
+        front = s.front;
+        back = s.back;
+        whole = s.whole;
+        size = s.size;
         viable = record {
-          more = s.viable.more; value = s.viable.value;
-          spells = second_is (s.front ++ s.viable.more) s.viable.value s.viable.spells
+          more = s.viable.more;
+          value = s.viable.value;
+          spells = second_is (s.front ++ s.viable.more) s.viable.value s.viable.spells;
         };
-        blocked = λ d tail other b. blocked_second c t bytes s.front s.back s.whole d tail other b (s.blocked d tail other b)
+        blocked = λ d tail other b. blocked_second c t bytes s.front s.back s.whole d tail other b (s.blocked d tail other b);
       }
 
   chosen_stops : (bytes : List ℕ) (left : ℕ) → chosen passes p q bytes ≡ Err left → Stops (Chosen passes R S) (chosen passes p q) bytes left
   chosen_stops [] left e =
       let s = Q.stops [] left e in
       record {
-        front = s.front; back = s.back; whole = s.whole; size = s.size;
+        front = s.front;
+        back = s.back;
+        whole = s.whole;
+        size = s.size;
         viable = record {
-          more = s.viable.more; value = s.viable.value;
-          spells = second_is (s.front ++ s.viable.more) s.viable.value s.viable.spells
+          more = s.viable.more;
+          value = s.viable.value;
+          spells = second_is (s.front ++ s.viable.more) s.viable.value s.viable.spells;
         };
-        blocked = λ d tail other b. absurd (no_bytes s.front s.back d tail s.whole b)
+        blocked = λ d tail other b. absurd (no_bytes s.front s.back d tail s.whole b);
       }
   chosen_stops (c ∷ bytes) left e = chosen_stuck c bytes (passes c) refl left e
 
   pub choose : Reader (Chosen passes R S) (chosen passes p q)
   choose = record {
     some = record { more = Q.some.more; value = Q.some.value; spells = second_is Q.some.more Q.some.value Q.some.spells };
-    sound = chosen_sound; complete = chosen_complete; stops = chosen_stops
+    sound = chosen_sound;
+    complete = chosen_complete;
+    stops = chosen_stops;
   }
 
 -- so many, one after another

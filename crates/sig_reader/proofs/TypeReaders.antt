@@ -1,21 +1,20 @@
 -- Types, methods, fields and locals are read as the grammar has them.
-use Rattle.std.proofs.Common.{◌≡◌, ℕ, zero, suc, ◌+◌, ◌<◌, ◌≤◌, Bool, true, false, cond, ◌&&◌, ◌||◌, List, [], ◌∷◌, ◌++◌, length, Result, Ok, Err, refl, sym, ◌∙◌, ap, subst, arith}
+use Rattle.std.proofs.Common.{◌≡◌, ℕ, zero, suc, ◌<◌, Bool, true, false, ◌&&◌, ◌||◌, List, [], ◌∷◌, ◌++◌, length, Ok, Err, refl, ap, subst, arith}
 use Rattle.std.specs.Prelude.{MatchBool, ◌==◌, nat_lt, nat_le, if◌then◌else◌}
 use Rattle.std.proofs.lemmas.Bool.Decides.{nat_tests}
 use Rattle.byte_view.specs.Reading.{◌>>=◌}
 use Rattle.sig_reader.specs.declared.elements.Element.{Element}
 use Rattle.sig_reader.specs.declared.elements.Element.TheVariants as element_kinds
-use Rattle.sig_reader.specs.declared.numbers.Numbers.TheVariants.{Between, Coded}
+use Rattle.sig_reader.specs.declared.numbers.Numbers.TheVariants.{Between}
 use Rattle.sig_reader.specs.declared.signature.TypeSig
 use Rattle.sig_reader.specs.declared.signature.TypeSig.{TypeSig}
-use Rattle.sig_reader.specs.declared.signature.Sig.{Sig}
 use Rattle.sig_reader.specs.Elements.{element, fits, is_void, is_by_ref, is_typed_by_ref, is_modifier, is_sentinel, is_pinned, is_convention, has_this, is_vararg, is_generic}
-use Rattle.sig_reader.specs.Numbers.{allows, any_number, token_of}
-use Rattle.sig_reader.specs.Grammar.{Joined, ◌▷◌, Gives, IsByte, Chosen, Exactly, IsUnsigned, IsSigned, IsToken, AtMost, Prefixed, Modified, OrVoid, OrTypedByRef, OrByRef, IsParam, IsResult, AreParams, IsGenericCount, IsMethod, IsShapeOf, is_named, argument_counts, IsInstance, Rest, IsType, IsField, pinned_type, IsLocal, AreLocals}
-use Rattle.sig_reader.specs.Reading.{Read, byte_where, chosen, many, unsigned_in, signed_in, token_in, modified_in, void_or, typed_by_ref_or, by_ref_or, pointed_in, param_in, result_in, params_in, generic_count_in, method_in, shape_in, instance_in, rest_in, type_in, field_in, local_type_in, local_in, locals_in, all_prefixes_in}
-use Rattle.sig_reader.proofs.Readers.{Reader, gives, joined, branch, byte, choose, repeat}
+use Rattle.sig_reader.specs.Numbers.{any_number}
+use Rattle.sig_reader.specs.Grammar.{◌▷◌, Gives, IsByte, Chosen, Exactly, IsUnsigned, IsSigned, IsToken, Prefixed, Modified, OrVoid, OrTypedByRef, OrByRef, IsParam, IsResult, AreParams, IsGenericCount, IsMethod, IsShapeOf, is_named, argument_counts, IsInstance, Rest, IsType, IsField, pinned_type, IsLocal, AreLocals}
+use Rattle.sig_reader.specs.Reading.{Read, byte_where, many, unsigned_in, signed_in, token_in, modified_in, void_or, typed_by_ref_or, by_ref_or, pointed_in, param_in, result_in, params_in, generic_count_in, method_in, shape_in, instance_in, rest_in, type_in, field_in, local_type_in, local_in, locals_in}
+use Rattle.sig_reader.proofs.Readers.{Reader, gives, joined, byte, choose, repeat}
 use Rattle.sig_reader.proofs.NumberReaders.{IsOpen, unsigned, signed, token, any_is_open}
-use Rattle.sig_reader.proofs.Prefixes.{all_prefixes}
+use Rattle.sig_reader.proofs.ModifierReaders.{all_prefixes}
 
 -- each spelling begins by a byte that passes a test
 pub record Starts {A : Type 0} (R : List ℕ → A → Type 0) (passes : ℕ → Bool) : Type 0 where
@@ -50,7 +49,7 @@ match_starts false b P Q f m = f m
 chosen_starts : {A : Type 0} (passes starts : ℕ → Bool) (R S : List ℕ → A → Type 0) → Starts S starts → Starts (Chosen passes R S) (λ c. passes c || starts c)
 chosen_starts passes starts R S s = record {
   first = λ c bytes x m. match_starts (passes c) (starts c) _ _ (s.first c bytes x) m;
-  nonempty = s.nonempty
+  nonempty = s.nonempty;
 }
 
 joined_first : {A B : Type 0} (R : List ℕ → A → Type 0) (S : A → List ℕ → B → Type 0) (starts : ℕ → Bool) → Starts R starts → (c : ℕ) (bytes front back : List ℕ) (x : A) → c ∷ bytes ≡ front ++ back → R front x → starts c ≡ true
@@ -66,13 +65,13 @@ joined_none R starts s (d ∷ front) back x w r = cc
 joined_starts : {A B : Type 0} (R : List ℕ → A → Type 0) (S : A → List ℕ → B → Type 0) (starts : ℕ → Bool) → Starts R starts → Starts (R ▷ S) starts
 joined_starts R S starts s = record {
   first = λ c bytes y j. joined_first R S starts s c bytes j.front j.back j.first j.whole j.begins;
-  nonempty = λ y j. joined_none R starts s j.front j.back j.first j.whole j.begins
+  nonempty = λ y j. joined_none R starts s j.front j.back j.first j.whole j.begins;
 }
 
 modified_starts : {A : Type 0} (R : List ℕ → A → Type 0) (starts : ℕ → Bool) → Starts R starts → Starts (Modified R) (λ c. is_modifier c || starts c)
 modified_starts R starts s = record {
   first = λ c bytes x m. match_starts (is_modifier c) (starts c) _ _ (s.first c bytes x) m;
-  nonempty = s.nonempty
+  nonempty = s.nonempty;
 }
 
 modified : {A : Type 0} (R : List ℕ → A → Type 0) (p : List ℕ → Read A) (starts : ℕ → Bool) → Reader R p → Starts R starts → starts 0x1F ≡ false → starts 0x20 ≡ false → Reader (Modified R) (modified_in p)
@@ -188,20 +187,14 @@ shape t =
     lows t rank n sizes)))
 
 arguments_open : (levels : ℕ) → IsOpen (argument_counts levels)
-arguments_open zero = (omega arith, omega arith)
-arguments_open (suc levels) = any_is_open
-
--- no argument is counted where no type may be nested
-no_arguments : (n : ℕ) (front : List ℕ) → IsUnsigned (Between 0 0) front n → n ≡ 0
-no_arguments n front r =
-    let same : n ≡ r.first.0 = r.goes_on.1 in
-    let taken : (nat_le 0 r.first.0 && nat_le r.first.0 0) ≡ true = r.begins.1 in
-    grind (arith, nat_tests)
+arguments_open levels = (omega arith, omega arith)
 
 -- where an argument is counted, a level is left
 some_arguments : (levels n : ℕ) (front : List ℕ) → IsUnsigned (argument_counts levels) front n → 0 < n → 0 < levels
-some_arguments zero n front r h = omega (arith, no_arguments n front r)
-some_arguments (suc levels) n front r h = omega arith
+some_arguments levels n front r h =
+    let same : n ≡ r.first.0 = r.goes_on.1 in
+    let taken : (nat_le 0 r.first.0 && nat_le r.first.0 (if levels == 0 then 0 else 0x1FFFFFFF)) ≡ true = r.begins.1 in
+    grind (arith, nat_tests)
 
 module _ (levels : ℕ) (T : List ℕ → TypeSig → Type 0) (t : List ℕ → Read TypeSig) (P : 0 < levels → Reader T t) (s : Starts T begins_type) where
   generic_type : Reader (IsInstance levels T) (instance_in levels t)
@@ -256,7 +249,7 @@ type_starts (suc levels) = record {
   first = λ c bytes x j.
       let same : j.first ≡ c = cc (j.whole, ap (λ f. f ++ j.back) j.begins.0) in
       subst (λ v. begins_type v ≡ true) same (fits_one levels (element j.first) j.begins.1);
-  nonempty = λ x j. cc (j.whole, ap (λ f. f ++ j.back) j.begins.0)
+  nonempty = λ x j. cc (j.whole, ap (λ f. f ++ j.back) j.begins.0);
 }
 
 -- a type under which types may be nested so many levels deep, from those
@@ -299,8 +292,8 @@ unfolding local_type_in
 local_type =
     all_prefixes true Pinnable (λ pinned bytes. by_ref_or (type_in 64) bytes >>= λ t. Ok (pinned_type pinned t.0, t.1))
     (λ pinned.
-        joined (OrByRef (IsType 64)) (λ t. Gives (pinned_type pinned t)) (by_ref_or (type_in 64)) (λ t bytes. Ok (pinned_type pinned t, bytes))
-        (by_ref (IsType 64) (type_in 64) whole_type (type_starts 64)) (λ t front r. gives (pinned_type pinned t)))
+    joined (OrByRef (IsType 64)) (λ t. Gives (pinned_type pinned t)) (by_ref_or (type_in 64)) (λ t bytes. Ok (pinned_type pinned t, bytes))
+    (by_ref (IsType 64) (type_in 64) whole_type (type_starts 64)) (λ t front r. gives (pinned_type pinned t)))
     (λ pinned c bytes x r. no_modifier begins_by_ref c refl refl ((pinnable_starts pinned).first c bytes x r))
     (λ pinned c bytes x r. never begins_by_ref 0x45 c refl ((pinnable_starts pinned).first c bytes x r))
     (λ pinned x r. (pinnable_starts pinned).nonempty x r)
@@ -325,3 +318,8 @@ locals =
     joined (IsByte (λ c. c == 0x07)) _ (byte_where (λ c. c == 0x07)) _ (byte (λ c. c == 0x07) 7 refl) (λ c front r.
     joined (IsUnsigned (Between 1 0xFFFE)) (λ n. Exactly IsLocal n) (unsigned_in (Between 1 0xFFFE)) (λ n. many local_in n) (unsigned (Between 1 0xFFFE) (omega arith, omega arith)) (λ n front r.
     repeat IsLocal local_in n (λ h. local)))
+
+pub no_levels : (levels : ℕ) (bytes : List ℕ) → levels ≡ 0 → type_in levels bytes ≡ Err (length bytes)
+unfolding type_in
+no_levels zero bytes h = refl
+no_levels (suc levels) bytes h = absurd (omega arith)

@@ -1,7 +1,7 @@
 -- The grammar of signatures (ECMA-335 II.23.2), as relations between bytes and what they spell, one
 -- for each production. A value may have many spellings: custom modifiers leave no trace, a number may
 -- be spelled longer than it needs, and the place of SENTINEL is not kept.
-use Rattle.std.specs.Prelude.{◌≡◌, ℕ, zero, suc, ◌-◌, Bool, true, false, ◌&&◌, ◌||◌, ◌==◌, List, [], ◌∷◌, ◌++◌, length, MatchBool, if◌then◌else◌, ℤ}
+use Rattle.std.specs.Prelude.{◌≡◌, ℕ, zero, suc, Bool, true, false, ◌&&◌, ◌||◌, ◌==◌, List, [], ◌∷◌, ◌++◌, length, MatchBool, if◌then◌else◌, ℤ}
 use Rattle.sig_reader.specs.declared.elements.Element.{Element}
 use Rattle.sig_reader.specs.declared.elements.Element.TheVariants as element_kinds
 use Rattle.sig_reader.specs.declared.numbers.Numbers.{Numbers}
@@ -20,6 +20,12 @@ pub record Joined {A B : Type 0} (R : List ℕ → A → Type 0) (S : A → List
   pub whole : bytes ≡ front ++ back
   pub begins : R front first
   pub goes_on : S first back y
+
+-- some spelling begins with these bytes
+pub record Begins {A : Type 0} (R : List ℕ → A → Type 0) (front : List ℕ) : Type 0 where
+  pub more : List ℕ
+  pub value : A
+  pub spells : R (front ++ more) value
 
 infixr 10 ◌▷◌
 abbrev pub ◌▷◌ : {A B : Type 0} → (List ℕ → A → Type 0) → (A → List ℕ → B → Type 0) → List ℕ → B → Type 0
@@ -116,7 +122,11 @@ IsMethod T =
     IsResult T ▷ λ result.
     AreParams T (is_vararg c) count ▷ λ params.
     Gives (record {
-      has_this = has_this c; vararg = is_vararg c; generic = generic; result = result; params = params
+      has_this = has_this c;
+      vararg = is_vararg c;
+      generic = generic;
+      result = result;
+      params = params;
     })
 
 -- ArrayShape (II.23.2.13): a rank of 1 at least, and at most as many sizes and lower bounds
@@ -135,8 +145,7 @@ is_named e = e == 0x11 || e == 0x12
 
 -- no argument stands where no type may be nested
 abbrev pub argument_counts : ℕ → Numbers
-argument_counts zero = Between 0 0
-argument_counts (suc levels) = any_number
+argument_counts levels = Between 0 (if levels == 0 then 0 else 0x1FFFFFFF)
 
 -- GENERICINST's parts: CLASS or VALUETYPE, a token, and arguments
 abbrev pub IsInstance : ℕ → (List ℕ → TypeSig → Type 0) → List ℕ → TypeSig → Type 0
@@ -187,3 +196,11 @@ AreLocals =
     IsByte (λ c. c == 0x07) ▷ λ c.
     IsUnsigned (Between 1 0xFFFE) ▷ λ count.
     Exactly IsLocal count
+
+-- a method's signature in a blob of its own
+abbrev pub IsMethodSig : List ℕ → Sig → Type 0
+IsMethodSig = IsMethod (IsType 64)
+
+-- the blob of a TypeSpec: one type (II.23.2.14)
+abbrev pub IsTypeSpec : List ℕ → TypeSig → Type 0
+IsTypeSpec = IsType 64

@@ -2,3 +2,4 @@ pub mod Elements
 pub mod Numbers
 pub mod Grammar
 pub mod Reading
+pub mod View

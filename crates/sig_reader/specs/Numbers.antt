@@ -1,5 +1,5 @@
 -- Compressed numbers in signatures (ECMA-335 II.23.2), each with the bytes that it takes.
-use Rattle.std.specs.Prelude.{◌≡◌, ℕ, suc, ◌+◌, ◌-◌, ◌*◌, ◌/◌, ◌%◌, ◌<◌, ◌≤◌, Bool, true, false, ◌&&◌, ◌==◌, not, nat_lt, nat_le, List, [], ◌∷◌, Result, Ok, Err, length, if◌then◌else◌, ℤ, pos, ◌-ℤ◌}
+use Rattle.std.specs.Prelude.{◌≡◌, ℕ, ◌+◌, ◌-◌, ◌*◌, ◌/◌, ◌%◌, Bool, true, false, ◌&&◌, ◌==◌, not, nat_lt, nat_le, List, [], ◌∷◌, if◌then◌else◌, ℤ, pos, ◌-ℤ◌}
 use Rattle.sig_reader.specs.declared.numbers.Numbers.{Numbers}
 use Rattle.sig_reader.specs.declared.numbers.Numbers.TheVariants.{Between, Coded}
 

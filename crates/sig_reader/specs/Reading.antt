@@ -1,7 +1,7 @@
 -- Reading of signatures (ECMA-335 II.23.2): a value and the bytes after it, or how many bytes are left
 -- at the first place from which no continuation is in the grammar. `proofs/` shows that it is the
 -- grammar's.
-use Rattle.std.specs.Prelude.{◌≡◌, ℕ, zero, suc, ◌+◌, ◌-◌, ◌*◌, Bool, true, false, ◌&&◌, ◌||◌, ◌==◌, nat_lt, nat_le, List, [], ◌∷◌, ◌++◌, length, Result, Ok, Err, Option, Some, None, if◌then◌else◌, ℤ}
+use Rattle.std.specs.Prelude.{ℕ, zero, suc, ◌+◌, ◌-◌, ◌*◌, Bool, true, false, ◌&&◌, ◌==◌, nat_lt, nat_le, List, [], ◌∷◌, length, Result, Ok, Err, Option, Some, None, if◌then◌else◌, ℤ}
 use Rattle.byte_view.specs.Reading.{◌>>=◌}
 use Rattle.sig_reader.specs.declared.elements.Element.{Element}
 use Rattle.sig_reader.specs.declared.elements.Element.TheVariants as element_kinds
@@ -92,15 +92,25 @@ signed_in bytes = number_in any_number bytes >>= λ x. Ok (signed_of x.0, x.1)
 unfoldable pub token_in : List ℕ → Read ℕ
 token_in bytes = number_in Coded bytes >>= λ x. Ok (token_of x.0.0, x.1)
 
--- At most n custom modifiers, and PINNED among them where it may stand: whether it did.
+-- One custom modifier, or PINNED where it may stand: whether PINNED was among what came so far, and the
+-- bytes after it; nothing where neither comes.
+unfoldable pub prefix_in : Bool → Bool → List ℕ → Result (Option (Bool × List ℕ)) ℕ
+prefix_in constrained pinned bytes =
+    if comes is_modifier bytes
+    then (token_in (after_first bytes) >>= λ token. Ok (Some (pinned, token.1)))
+    else if comes (λ e. constrained && is_pinned e) bytes then Ok (Some (true, after_first bytes))
+    else Ok None
+
+-- what comes after one, or the end of them
+abbrev pub go_on : (Bool → List ℕ → Read Bool) → Bool → List ℕ → Option (Bool × List ℕ) → Read Bool
+go_on again pinned bytes None = Ok (pinned, bytes)
+go_on again pinned bytes (Some next) = again next.0 next.1
+
+-- At most n of them: whether PINNED was among them.
 unfoldable pub prefixes_in : Bool → ℕ → Bool → List ℕ → Read Bool
 prefixes_in constrained zero pinned bytes = Ok (pinned, bytes)
 prefixes_in constrained (suc n) pinned bytes =
-    if comes is_modifier bytes
-    then (token_in (after_first bytes) >>= λ token. prefixes_in constrained n pinned token.1)
-    else if comes (λ e. constrained && is_pinned e) bytes
-    then prefixes_in constrained n true (after_first bytes)
-    else Ok (pinned, bytes)
+    prefix_in constrained pinned bytes >>= go_on (prefixes_in constrained n) pinned bytes
 
 -- any number of them: no more than there are bytes
 abbrev pub all_prefixes_in : Bool → List ℕ → Read Bool
@@ -128,6 +138,11 @@ param_in t bytes = modified_in (typed_by_ref_or (by_ref_or t)) bytes
 unfoldable pub result_in : (List ℕ → Read TypeSig) → List ℕ → Read TypeSig
 result_in t bytes = modified_in (void_or (typed_by_ref_or (by_ref_or t))) bytes
 
+-- where SENTINEL may still stand and stands: that it may no more, and the bytes after it
+abbrev pub after_sentinel : Bool → List ℕ → Bool × List ℕ
+after_sentinel sentinel bytes =
+    if comes (λ e. sentinel && is_sentinel e) bytes then (false, after_first bytes) else (sentinel, bytes)
+
 -- the parameters; where SENTINEL may still stand, it may stand before the next one
 unfoldable pub params_in : (List ℕ → Read TypeSig) → Bool → ℕ → List ℕ → Read (List TypeSig)
 params_in t sentinel zero bytes = Ok ([], bytes)
@@ -147,9 +162,16 @@ method_in t bytes =
     unsigned_in any_number generic.1 >>= λ count.
     result_in t count.1 >>= λ result.
     params_in t (is_vararg c.0) count.0 result.1 >>= λ params.
-    Ok (record {
-      has_this = has_this c.0; vararg = is_vararg c.0; generic = generic.0; result = result.0; params = params.0
-    }, params.1)
+    Ok (
+      record {
+        has_this = has_this c.0;
+        vararg = is_vararg c.0;
+        generic = generic.0;
+        result = result.0;
+        params = params.0;
+      },
+      params.1,
+    )
 
 unfoldable pub shape_in : TypeSig → List ℕ → Read TypeSig
 shape_in t bytes =
@@ -216,9 +238,39 @@ locals_in bytes =
 
 -- a whole blob: a value, or the first place from which no continuation is in the grammar
 abbrev pub only : {A : Type 0} → ℕ → Read A → Result A ℕ
-only size (Ok (x, [])) = Ok x
-only size (Ok (x, c ∷ rest)) = Err (size - suc (length rest))
+only size (Ok r) = if length r.1 == 0 then Ok r.0 else Err (size - length r.1)
 only size (Err left) = Err (size - left)
 
 abbrev pub whole : {A : Type 0} → (List ℕ → Read A) → List ℕ → Result A ℕ
 whole p bytes = only (length bytes) (p bytes)
+
+-- A blob as the signature of a field, of a method, of locals, or as the type of a TypeSpec: its value,
+-- or the refused place. Types are nested at most 64 deep.
+unfoldable pub field_read : List ℕ → Result TypeSig ℕ
+field_read bytes = whole field_in bytes
+
+unfoldable pub method_read : List ℕ → Result Sig ℕ
+method_read bytes = whole (method_in (type_in 64)) bytes
+
+unfoldable pub locals_read : List ℕ → Result (List TypeSig) ℕ
+locals_read bytes = whole locals_in bytes
+
+unfoldable pub type_spec_read : List ℕ → Result TypeSig ℕ
+type_spec_read bytes = whole (type_in 64) bytes
+
+abbrev pub value_of : {A : Type 0} → Result A ℕ → Option A
+value_of (Ok x) = Some x
+value_of (Err at) = None
+
+-- the value alone, where the blob has one
+abbrev pub field_sig : List ℕ → Option TypeSig
+field_sig bytes = value_of (field_read bytes)
+
+abbrev pub method_sig : List ℕ → Option Sig
+method_sig bytes = value_of (method_read bytes)
+
+abbrev pub locals_sig : List ℕ → Option (List TypeSig)
+locals_sig bytes = value_of (locals_read bytes)
+
+abbrev pub type_spec_sig : List ℕ → Option TypeSig
+type_spec_sig bytes = value_of (type_spec_read bytes)

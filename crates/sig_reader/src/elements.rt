@@ -23,9 +23,17 @@ pub enum Element {
 }
 
 pub const VOID: u8 = 0x01;
+
 pub const BY_REF: u8 = 0x10;
+
+pub const VALUE_TYPE: u8 = 0x11;
+
+pub const CLASS: u8 = 0x12;
+
 pub const TYPED_BY_REF: u8 = 0x16;
+
 pub const SENTINEL: u8 = 0x41;
+
 pub const PINNED: u8 = 0x45;
 
 fn is_plain(e: u8) -> bool

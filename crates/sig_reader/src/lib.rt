@@ -4,7 +4,12 @@
 mod bad;
 mod elements;
 mod numbers;
+mod parts;
+mod prefixes;
+mod reader;
 mod signature;
+mod types;
 
 pub use bad::SigBad;
+pub use reader::{read_field_sig, read_locals, read_method_sig, read_type_spec};
 pub use signature::{I32s, Sig, TypeSig, TypeSigs, U32s};
