@@ -1,22 +1,24 @@
 -- Lemmas on the rules of a struct, and on extents that are counted up to 2^32.
-use Rattle.std.proofs.Common.{◌≡◌, ℕ, zero, suc, ◌+◌, ◌*◌, ◌^◌, ◌≤◌, ◌<◌, min, max, Bool, true, false, not, ◌&&◌, ◌||◌, ◌==◌, nat_lt, IsTrue, List, [], ◌∷◌, ◌++◌, map, length, Option, Some, None, is_none, All, drop, get_or, drop-cons, append_assoc, unwrap_or, Result, Ok, Err, arith, inl, inr, if◌then◌else◌, refl, sym, ◌∙◌, ap, subst}
+use Rattle.std.proofs.Common.{◌≡◌, ℕ, zero, suc, ◌+◌, ◌-◌, ◌*◌, ◌^◌, ◌≤◌, ◌<◌, min, max, Bool, true, false, not, ◌&&◌, ◌||◌, ◌==◌, nat_lt, IsTrue, List, [], ◌∷◌, ◌++◌, map, length, Option, Some, None, is_none, All, drop, get_or, drop-cons, append_assoc, unwrap_or, Result, Ok, Err, arith, inl, inr, if◌then◌else◌, refl, sym, ◌∙◌, ap, subst}
 use Rattle.std.proofs.lemmas.Bool.Decides.{nat_tests}
 use Rattle.std.proofs.lemmas.List.FromFn.{length-map-range_with_len}
 use Rattle.std.proofs.lemmas.List.{length-map, get_or-map, append-nil, drop_all}
 use Rattle.std.proofs.lemmas.List.Elements.{All-map}
 use Rattle.std.specs.Result.{IsErrAnd}
 use Rattle.native_layout.specs.declared.shapes.Shape.{Shape}
-use Rattle.native_layout.specs.Shapes.{measure, repeated, scalar}
-use Rattle.std.specs.List.{list_any, position, prefix_len, count_by, range_with_len}
+use Rattle.native_layout.specs.Shapes.{extents_of, measure, measured, repeated, scalar, stands}
+use Rattle.std.specs.List.{list_any, position, prefix_len, count_by, range_with_len, list_all, position_or_len}
+use Rattle.std.proofs.lemmas.List.Sums.{fails_before_first}
+use Rattle.native_layout.specs.declared.shapes.StructShape.{StructShape}
 use Rattle.native_layout.specs.declared.extent.Extent.{Extent}
 use Rattle.native_layout.specs.declared.extent.Range.{Range}
 use Rattle.native_layout.specs.declared.placing.Placed.{Placed}
 use Rattle.native_layout.specs.declared.shapes.Layout.{Layout}
 use Rattle.native_layout.specs.declared.refused.LayoutBad.{LayoutBad}
 use Rattle.native_layout.specs.declared.refused.LayoutBad.TheVariants.{Outside, Memory}
-use Rattle.native_layout.specs.Struct.{Measure, Struct, greatest, aligned, is_align, is_packing, is_integral, share_a_byte, overlaps_another, first_overlap, field_align, in_sequence, at_offsets, offset_at, written, extents, ranges, largest, struct_align, struct_size, struct_measure, broken, broken_where, first_some, overlap_of}
+use Rattle.native_layout.specs.Struct.{Measure, Struct, greatest, aligned, is_align, is_packing, packing, is_integral, share_a_byte, overlaps_another, first_overlap, field_align, in_sequence, at_offsets, offset_at, written, extents, ranges, largest, struct_align, struct_size, struct_measure, broken, broken_where, first_some, overlap_of}
 use Rattle.native_layout.specs.Answer.{Answers, Passes, told, laid, laid_unless}
-use Rattle.native_layout.specs.Placed.{HasFields, AreWritten, IsFilled, IsWritten, IsExtent, IsMeasured, IsSequence, cap, finished, greatest_end, starts}
+use Rattle.native_layout.specs.Placed.{HasFields, AreWritten, IsFilled, IsWritten, IsExtent, IsMeasured, IsSequence, cap, finished, greatest_end, starts, FieldsTake, HasSize}
 use Rattle.native_layout.proofs.Counts.{decided, count_by-cons}
 use Rattle.native_layout.proofs.Positions.{missing_none}
 use Rattle.native_layout.proofs.Numbers.{aligned_above, greatest-least}
@@ -472,3 +474,183 @@ extents_whole whole items k shapes past all =
 pub measure_at : (shapes : List Shape) (k : ℕ) (item : Shape) → k < length shapes → item ≡ get_or shapes k item
     → get_or (map measure shapes) k (scalar 1 true) ≡ measure item
 measure_at shapes k item lt is = get_or-map measure shapes k item (scalar 1 true) lt ∙ ap measure (sym is)
+
+-- ---- sizes of structs that stand
+
+pub is_none_is : (o : Option ℕ) → IsTrue (is_none o) → o ≡ None
+is_none_is None h = refl
+is_none_is (Some k) h = absurd (cc)
+
+third_none : (a b c : Option ℕ) (rest : List (Option ℕ)) → first_some (a ∷ b ∷ c ∷ rest) ≡ None → c ≡ None
+third_none (Some k) b c rest h = absurd (cc)
+third_none None (Some k) c rest h = absurd (cc)
+third_none None None (Some k) rest h = absurd (cc)
+third_none None None None rest h = refl
+
+first_none : (a : Option ℕ) (rest : List (Option ℕ)) → first_some (a ∷ rest) ≡ None → a ≡ None
+first_none (Some k) rest h = absurd (cc)
+first_none None rest h = refl
+
+packing_is : (b : Bool) → broken_where (not b) ≡ None → IsTrue b
+packing_is true h = refl
+packing_is false h = absurd (cc)
+
+pub standing_packing : (s : Struct) → broken s ≡ None → IsTrue (is_packing s.pack)
+standing_packing s none =
+    packing_is (is_packing s.pack) (third_none (position (λ m. not m.stands) s.fields) (broken_where (length s.fields == 0)) (broken_where (not (is_packing s.pack)))
+    ((if s.explicit then position is_none (written s.offsets (length s.fields)) else None) ∷ overlap_of s ∷ broken_where (nat_lt largest (struct_size s)) ∷ []) none)
+
+not_false : (b : Bool) → not b ≡ false → b ≡ true
+not_false true h = refl
+not_false false h = absurd (cc)
+
+is_below : (a b : ℕ) → a < b → nat_lt a b ≡ true
+is_below a b h = grind (arith, nat_tests)
+
+stand_each : (ms : List Measure) → position (λ m. not m.stands) ms ≡ None → (k : ℕ) (d : Measure) → k < length ms → (get_or ms k d).stands ≡ true
+stand_each ms none k d lt = elim (decided (nat_lt k (position_or_len (λ m. not m.stands) ms))) [
+  | inl before ↦
+      not_false _ (fails_before_first (λ m. not m.stands) ms k d (below_of k _ before))
+  | inr after ↦
+      let reached : position_or_len (λ m. not m.stands) ms ≤ k = within_of k _ after in
+      let found : nat_lt (position_or_len (λ m. not m.stands) ms) (length ms) ≡ true = is_below _ _ (omega arith) in
+      let some : position (λ m. not m.stands) ms ≡ Some (position_or_len (λ m. not m.stands) ms) = rw found refl in
+      absurd (cc)
+]
+
+all_stand : (shapes : List Shape) → ((k : ℕ) → k < length shapes → (get_or (map measure shapes) k (scalar 1 true)).stands ≡ true) → list_all stands shapes ≡ true
+all_stand [] each = refl
+all_stand (x ∷ xs) each =
+    let here : stands x ≡ true = each 0 (omega arith) in
+    let rest : list_all stands xs ≡ true = all_stand xs (λ k h. each (suc k) (omega arith)) in
+    rw (here, rest) refl
+
+pub standing_fields : (s : StructShape) → broken (measured s) ≡ None → IsTrue (list_all stands s.fields)
+standing_fields s none =
+    let nested = first_none (position (λ m. not m.stands) (map measure s.fields)) _ none in
+    let all : list_all stands s.fields ≡ true = all_stand s.fields (λ k h. stand_each (map measure s.fields) nested k (scalar 1 true) (omega (arith, length-map s.fields measure))) in
+    all
+
+rounded_above : (n align : ℕ) → 1 ≤ align → n ≤ aligned n align
+rounded_above n align some = omega arith
+
+pub ends_below : (s : Struct) → broken s ≡ None → greatest_end 0 (ranges s) ≤ largest
+ends_below s none =
+    let size : struct_size s ≤ largest = standing_within s none in
+    let some : 1 ≤ struct_align s = greatest-least 1 (map (field_align s.pack) (extents s)) in
+    let above : greatest_end 0 (ranges s) ≤ aligned (greatest_end 0 (ranges s)) (struct_align s) = rounded_above _ _ some in
+    omega arith
+
+pub struct_has_size : (s : Struct) (f : Extent) (size : ℕ) → broken s ≡ None → FieldsTake s f → size ≡ max s.least (aligned f.size f.align)
+    → HasSize (struct_measure s) (record { size = size; align = f.align })
+struct_has_size s f size none take is =
+    let same : size ≡ struct_size s = is ∙ (ap (λ n. max s.least (aligned n f.align)) take.size ∙ ap (λ a. max s.least (aligned (greatest_end 0 (ranges s)) a)) take.align) in
+    let within : struct_size s ≤ largest = standing_within s none in
+    record {
+      size = same ∙ omega arith;
+      align = take.align;
+      good = take.good;
+    }
+
+pub repeated_has_size : (m element : Measure) (n size : ℕ) (e : Extent) → m ≡ repeated n element → HasSize element e → size ≡ min (n * e.size) (2 ^ 64 - 1)
+    → HasSize m (record { size = size; align = e.align })
+repeated_has_size m element n size e is has size_is = record {
+  size = size_is ∙ (ap (λ x. min (n * x) (2 ^ 64 - 1)) has.size ∙ (min_times n element.extent.size (2 ^ 64 - 1) ∙ ap (λ (x : Measure). min x.extent.size (2 ^ 64 - 1)) (sym is)));
+  align = has.align ∙ ap (λ (x : Measure). x.extent.align) (sym is);
+  good = has.good;
+}
+
+-- ---- the steps of a walk over fields
+
+split_extents : (k : ℕ) (shapes : List Shape) (item : Shape) → k < length shapes → item ≡ get_or shapes k item
+    → extents_of (drop k shapes) ≡ (measure item).extent ∷ extents_of (drop (k + 1) shapes)
+split_extents k shapes item lt is =
+    let split : drop k shapes ≡ get_or shapes k item ∷ drop (suc k) shapes = drop-cons shapes k item lt in
+    let one : suc k ≡ k + 1 = omega arith in
+    ap extents_of split ∙ (ap (λ x. (measure x).extent ∷ extents_of (drop (suc k) shapes)) (sym is) ∙ ap (λ n. (measure item).extent ∷ extents_of (drop n shapes)) one)
+
+-- a size that 64 bits tell whole
+told_whole : (told size : ℕ) → told ≡ min size (2 ^ 64 - 1) → size ≤ largest → told ≡ size
+told_whole told size is small = omega arith
+
+pub record SequenceStep (whole pack start : ℕ) (e : Extent) (rest : List Extent) : Type 0 where
+  pub sum : start + e.size ≤ largest
+  pub step : whole ≡ greatest_end (start + e.size) (in_sequence pack (start + e.size) rest)
+
+above_start : (end start align : ℕ) → IsTrue (is_align align) → start ≡ aligned end align → end ≤ start
+above_start end start align good is = let h : end ≤ aligned end align = aligned_above end align good in rw is h
+
+below_whole : (least whole : ℕ) (ns : List ℕ) → whole ≡ greatest least ns → least ≤ whole
+below_whole least whole ns is = rw is (greatest-least least ns)
+
+add_both : (a b c d : ℕ) → a ≡ b → c ≡ d → a + c ≡ b + d
+add_both a b c d p q = omega arith
+
+pub sequence_step : (whole pack end k start align : ℕ) (shapes : List Shape) (item : Shape) (e : Extent) → k < length shapes → item ≡ get_or shapes k item
+    → whole ≡ greatest_end end (in_sequence pack end (extents_of (drop k shapes))) → whole ≤ largest → HasSize (measure item) e
+    → align ≡ field_align pack e → IsTrue (is_align align) → start ≡ aligned end align
+    → SequenceStep whole pack start e (extents_of (drop (k + 1) shapes))
+sequence_step whole pack end k start align shapes item e lt is all small has align_is good start_is =
+    let m : Extent = (measure item).extent in
+    let rest : List Extent = extents_of (drop (k + 1) shapes) in
+    let next : ℕ = aligned end (field_align pack m) + m.size in
+    let whole' : whole ≡ greatest_end (max end next) (in_sequence pack next rest) =
+    all ∙ ap (λ es. greatest_end end (in_sequence pack end es)) (split_extents k shapes item lt is) in
+    let place : start ≡ aligned end (field_align pack m) = start_is ∙ ap (λ a. aligned end a) (align_is ∙ ap (λ a. min (packing pack) a) has.align) in
+    let above : end ≤ start = above_start end start align good start_is in
+    let low : max end next ≤ whole = below_whole (max end next) whole (map (λ r. r.end) (in_sequence pack next rest)) whole' in
+    let exact : e.size ≡ m.size = told_whole e.size m.size has.size (omega (arith, low, small)) in
+    let sum : start + e.size ≡ next = add_both start (aligned end (field_align pack m)) e.size m.size place exact in
+    let top : max end next ≡ next = omega (arith, above, sum) in
+    record {
+      sum = omega (arith, sum, low, small);
+      step = rw sum (whole' ∙ ap (λ n. greatest_end n (in_sequence pack next rest)) top);
+    }
+
+pub align_step : (whole acc pack k at : ℕ) (shapes : List Shape) (item : Shape) (e : Extent) → k < length shapes → item ≡ get_or shapes k item
+    → whole ≡ greatest acc (map (field_align pack) (extents_of (drop k shapes))) → at ≡ field_align pack e → HasSize (measure item) e
+    → whole ≡ greatest (max acc at) (map (field_align pack) (extents_of (drop (k + 1) shapes)))
+align_step whole acc pack k at shapes item e lt is all at_is has =
+    all ∙ (ap (λ es. greatest acc (map (field_align pack) es)) (split_extents k shapes item lt is)
+    ∙ ap (λ a. greatest (max acc a) (map (field_align pack) (extents_of (drop (k + 1) shapes)))) (sym (at_is ∙ ap (λ a. min (packing pack) a) has.align)))
+
+pub record ExplicitStep (whole end start k : ℕ) (e : Extent) (offsets : List (Option ℕ)) (shapes : List Shape) : Type 0 where
+  pub sum : start + e.size ≤ largest
+  pub step : whole ≡ greatest_end (max end (start + e.size)) (at_offsets (map (offset_at offsets) (range_with_len (k + 1) (length shapes - (k + 1)))) (extents_of (drop (k + 1) shapes)))
+
+pub explicit_step : (whole end k start : ℕ) (offsets : List (Option ℕ)) (shapes : List Shape) (item : Shape) (e : Extent) → k < length shapes → item ≡ get_or shapes k item
+    → whole ≡ greatest_end end (at_offsets (map (offset_at offsets) (range_with_len k (length shapes - k))) (extents_of (drop k shapes))) → whole ≤ largest
+    → HasSize (measure item) e → start ≡ unwrap_or (offset_at offsets k) 0 → ExplicitStep whole end start k e offsets shapes
+explicit_step whole end k start offsets shapes item e lt is all small has start_is =
+    let m : Extent = (measure item).extent in
+    let left : ℕ = length shapes - (k + 1) in
+    let rest : List Range = at_offsets (map (offset_at offsets) (range_with_len (k + 1) left)) (extents_of (drop (k + 1) shapes)) in
+    let next : ℕ = unwrap_or (offset_at offsets k) 0 + m.size in
+    let fewer : length shapes - k ≡ suc left = omega arith in
+    let whole' : whole ≡ greatest_end (max end next) rest =
+    all ∙ (ap (λ n. greatest_end end (at_offsets (map (offset_at offsets) (range_with_len k n)) (extents_of (drop k shapes)))) fewer
+    ∙ ap (λ es. greatest_end end (at_offsets (map (offset_at offsets) (range_with_len k (suc left))) es)) (split_extents k shapes item lt is)) in
+    let low : max end next ≤ whole = below_whole (max end next) whole (map (λ r. r.end) rest) whole' in
+    let exact : e.size ≡ m.size = told_whole e.size m.size has.size (omega (arith, low, small)) in
+    let sum : start + e.size ≡ next = add_both start (unwrap_or (offset_at offsets k) 0) e.size m.size start_is exact in
+    record {
+      sum = omega (arith, sum, low, small);
+      step = rw sum whole';
+    }
+
+pub max_align : (a b : ℕ) → IsTrue (is_align a) → IsTrue (is_align b) → IsTrue (is_align (max a b))
+max_align a b x y = elim (decided (nat_lt a b)) [
+  | inl less ↦ let h : a < b = below_of a b less in let is : max a b ≡ b = omega arith in rw is y
+  | inr more ↦ let h : b ≤ a = within_of a b more in let is : max a b ≡ a = omega arith in rw is x
+]
+
+-- where fields lie, by the struct's own fields
+pub sequential_below : (s : StructShape) → broken (measured s) ≡ None → s.explicit ≡ false → greatest_end 0 (in_sequence s.pack 0 (extents_of s.fields)) ≤ largest
+sequential_below s none e =
+    subst (λ (rs : List Range). greatest_end 0 rs ≤ largest) (ranges_sequential (measured s) e) (ends_below (measured s) none)
+
+pub explicit_below : (s : StructShape) → broken (measured s) ≡ None → s.explicit ≡ true
+    → greatest_end 0 (at_offsets (written s.offsets (length s.fields)) (extents_of s.fields)) ≤ largest
+explicit_below s none e =
+    subst (λ (n : ℕ). greatest_end 0 (at_offsets (written s.offsets n) (extents_of s.fields)) ≤ largest) (length-map s.fields measure)
+    (subst (λ (rs : List Range). greatest_end 0 rs ≤ largest) (ranges_explicit (measured s) e) (ends_below (measured s) none))

@@ -1,5 +1,5 @@
 -- What the code says of where fields lie.
-use Rattle.std.specs.Prelude.{◌≡◌, ℕ, ◌^◌, ◌≤◌, ◌<◌, min, max, Bool, true, false, not, ◌&&◌, ◌==◌, IsTrue, nat_lt, List, map, length, All, Option, Some, None, is_none, unwrap_or, Result, Ok, Err, ⊤, Vec}
+use Rattle.std.specs.Prelude.{◌≡◌, ℕ, ◌^◌, ◌-◌, ◌≤◌, ◌<◌, min, max, Bool, true, false, not, ◌&&◌, ◌==◌, IsTrue, nat_lt, List, map, length, All, Option, Some, None, is_none, unwrap_or, Result, Ok, Err, ⊤, Vec}
 use Rattle.std.specs.Option.{option_map}
 use Rattle.std.specs.List.{count_by, position}
 use Rattle.std.specs.List.Sorted.{IsNonDecreasing}
@@ -10,7 +10,9 @@ use Rattle.native_layout.specs.declared.placing.Placed.{Placed}
 use Rattle.native_layout.specs.declared.shapes.Layout.{Layout}
 use Rattle.native_layout.specs.declared.refused.LayoutBad.{LayoutBad}
 use Rattle.native_layout.specs.declared.refused.LayoutBad.TheVariants.{Outside, Memory}
-use Rattle.native_layout.specs.Struct.{Measure, Struct, greatest, in_sequence, largest, is_align, is_packing, aligned, written, offset_at, broken_where}
+use Rattle.native_layout.specs.Struct.{Measure, Struct, greatest, in_sequence, largest, is_align, is_packing, aligned, written, offset_at, broken_where, broken, extents, ranges, field_align}
+use Rattle.native_layout.specs.Shapes.{measured, struct_in_order}
+use Rattle.native_layout.specs.declared.shapes.StructShape.{StructShape}
 use Rattle.native_layout.specs.Answer.{told, laid_unless}
 
 abbrev pub starts : List Range → List (Option ℕ)
@@ -84,6 +86,26 @@ abbrev pub finished : List (Option ℕ) → ℕ → ℕ → ℕ → Result Layou
 finished offsets end align least =
     let size = max least (aligned end align) in
     laid_unless (broken_where (nat_lt largest size)) (record { offsets = offsets; size = size; align = align })
+
+-- the size and the alignment of a shape that stands, a size as far as 64 bits tell it
+pub record HasSize (m : Measure) (e : Extent) : Type 0 where
+  pub size : e.size ≡ min m.extent.size (2 ^ 64 - 1)
+  pub align : e.align ≡ m.extent.align
+  pub good : IsTrue (is_align e.align)
+
+pub record StandsInOrder (s : StructShape) : Type 0 where
+  pub order : IsTrue (struct_in_order s)
+  pub stands : broken (measured s) ≡ None
+
+-- the greatest end of some fields and their greatest alignment
+pub record Take (pack : ℕ) (es : List Extent) (rs : List Range) (e : Extent) : Type 0 where
+  pub size : e.size ≡ greatest_end 0 rs
+  pub align : e.align ≡ greatest 1 (map (field_align pack) es)
+  pub good : IsTrue (is_align e.align)
+  pub within : e.size ≤ largest
+
+abbrev pub FieldsTake : Struct → Extent → Type 0
+FieldsTake s e = Take s.pack (extents s) (ranges s) e
 
 -- a field has bytes
 abbrev pub is_filled : Range → Bool

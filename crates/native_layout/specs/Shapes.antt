@@ -1,6 +1,7 @@
 -- What a shape is in memory.
-use Rattle.std.specs.Prelude.{ℕ, ◌+◌, ◌*◌, Bool, true, false, ◌==◌, [], ◌∷◌, map, sum}
+use Rattle.std.specs.Prelude.{ℕ, ◌+◌, ◌*◌, Bool, true, false, ◌==◌, [], ◌∷◌, map, sum, List}
 use Rattle.std.specs.List.{list_all, list_any}
+use Rattle.native_layout.specs.declared.extent.Extent.{Extent}
 use Rattle.native_layout.specs.declared.shapes.Enc.{Enc}
 use Rattle.native_layout.specs.declared.shapes.Enc.TheVariants.{Utf8, Utf16}
 use Rattle.native_layout.specs.declared.shapes.Shape.{Shape, out-Shape}
@@ -50,6 +51,13 @@ struct_step s = struct_measure (record {
 -- the size, the alignment and more of a shape
 abbrev pub measure : Shape → Measure
 measure = fold-Shape Measure Measure measure_step struct_step
+
+-- whether each struct in a shape can be laid out
+abbrev pub stands : Shape → Bool
+stands shape = (measure shape).stands
+
+abbrev pub extents_of : List Shape → List Extent
+extents_of shapes = map (λ m. m.extent) (map measure shapes)
 
 -- a struct by the measures of its fields
 abbrev pub measured : StructShape → Struct

@@ -1,5 +1,10 @@
 //! How many bytes a shape takes, and where it may lie.
 
+ghost use Rattle.std.specs.Prelude.{◌≡◌, ◌*◌};
+ghost use Rattle.native_layout.specs.Shapes.{unit_width};
+
+use crate::shapes::Enc;
+
 /// How many bytes a shape takes, and where it may lie.
 #[derive(Clone, Copy, Debug, PartialEq, Eq)]
 pub struct Extent {
@@ -14,4 +19,28 @@ pub struct Extent {
 pub struct Range {
     pub start: u64,
     pub end: u64,
+}
+
+/// A scalar lies at a multiple of its width.
+pub fn scalar(width: u8) -> Extent
+    ensures { result ≡ record { size = width; align = width } }
+{
+    Extent {
+        size: u64::from(width),
+        align: u64::from(width),
+    }
+}
+
+/// A text of `count` units in place.
+pub fn inline_text(enc: Enc, count: u32) -> Extent
+    ensures { result ≡ record { size = count * unit_width enc; align = unit_width enc } }
+{
+    let unit = match enc {
+        Enc::Utf8 => 1,
+        Enc::Utf16 => 2,
+    };
+    Extent {
+        size: u64::from(count) * unit,
+        align: unit,
+    }
 }

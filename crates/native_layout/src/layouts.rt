@@ -8,12 +8,12 @@ ghost use Rattle.native_layout.specs.Answer.{Answers, Passes, layout_of};
 ghost use Rattle.native_layout.specs.Placed.{AreExtents, HasFields, IsMeasured, Measures, cap, finished};
 
 use crate::contents::are_integral;
-use crate::extent::{Extent, Range};
+use crate::extent::{Extent, Range, inline_text, scalar};
 use crate::offsets::{greatest_end, ranges_at, told, written};
 use crate::overlap::first_overlap;
 use crate::placing::{LARGEST_STRUCT, Placed, aligned, greatest_align, in_sequence, is_packing};
 use crate::refused::LayoutBad;
-use crate::shapes::{Enc, Layout, Shape, StructShape};
+use crate::shapes::{Layout, Shape, StructShape};
 use std::alloc::Global;
 
 /// The sizes up to which extents are counted: more than any offset that can be written.
@@ -74,29 +74,17 @@ fn extent_of(alloc: Global, shape: &Shape) -> Result<Extent, LayoutBad>
         }
         Shape::Int(width, _) | Shape::Bool(width) | Shape::Char(width) => Ok(scalar(*width)),
         Shape::Native(_) | Shape::Text(_) | Shape::Thunk(_) => Ok(scalar(8)),
-        Shape::InlineText(enc, count) => Ok(inline_text(*enc, *count)),
+        Shape::InlineText(enc, count) => Ok(counted(inline_text(*enc, *count))),
     }
 }
 
-fn scalar(width: u8) -> Extent
-    ensures { result ≡ record { size = width; align = width } }
+/// An extent as it is counted.
+fn counted(e: Extent) -> Extent
+    ensures { result ≡ cap e }
 {
     Extent {
-        size: u64::from(width),
-        align: u64::from(width),
-    }
-}
-
-fn inline_text(enc: Enc, count: u32) -> Extent
-    ensures { result ≡ cap (record { size = count * unit_width enc; align = unit_width enc }) }
-{
-    let unit = match enc {
-        Enc::Utf8 => 1,
-        Enc::Utf16 => 2,
-    };
-    Extent {
-        size: (u64::from(count) * unit).min(COUNTED),
-        align: unit,
+        size: e.size.min(COUNTED),
+        align: e.align,
     }
 }
 

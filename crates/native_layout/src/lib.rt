@@ -9,6 +9,7 @@ mod overlap;
 mod placing;
 mod refused;
 mod shapes;
+mod sizes;
 
 pub use contents::{MOST_PARTS, has_pointer_cells, has_texts, is_flat, scalar_parts};
 pub use extent::Extent;
@@ -16,3 +17,4 @@ pub use layouts::layout;
 pub use placing::LARGEST_STRUCT;
 pub use refused::LayoutBad;
 pub use shapes::{Enc, Layout, Offsets, Shape, Shapes, StructShape};
+pub use sizes::{align_of, size_of};

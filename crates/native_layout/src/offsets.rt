@@ -63,7 +63,8 @@ pub fn greatest_end(ranges: &[Range]) -> u64
     end
 }
 
-fn offset_at(offsets: &Offsets, k: usize) -> Option<u32>
+/// The offset that is written for a field.
+pub fn offset_at(offsets: &Offsets, k: usize) -> Option<u32>
     ensures value { result ≡ offset_of offsets.now k }
     ensures small { unwrap_or (offset_of offsets.now k) 0 < 2 ^ 32 }
 {
