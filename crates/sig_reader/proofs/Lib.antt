@@ -3,3 +3,5 @@ pub mod NumberReaders
 pub mod ModifierReaders
 pub mod TypeReaders
 pub mod Lists
+pub mod Wholes
+pub mod Compressed

@@ -3,3 +3,4 @@ pub mod Numbers
 pub mod Grammar
 pub mod Reading
 pub mod View
+pub mod Laws

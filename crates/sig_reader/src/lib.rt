@@ -3,6 +3,7 @@
 
 mod bad;
 mod elements;
+pub mod laws;
 mod numbers;
 mod parts;
 mod prefixes;
