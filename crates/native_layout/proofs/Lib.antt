@@ -1,5 +1,7 @@
+pub mod Ascending
 pub mod Counts
 pub mod Folds
 pub mod Numbers
 pub mod Positions
+pub mod Sharing
 pub mod Structs

@@ -2,3 +2,5 @@ pub mod Struct
 pub mod Shapes
 pub mod Answer
 pub mod Placed
+pub mod Laws
+pub mod OverlapLaws

@@ -1,6 +1,6 @@
 //! What stands in a shape.
 
-ghost use Rattle.std.specs.Prelude.{◌≡◌, ◌+◌, ◌^◌, min, sum, map};
+ghost use Rattle.std.specs.Prelude.{◌≡◌, ◌+◌, ◌^◌, true, false, min, sum, map};
 ghost use Rattle.std.specs.List.{list_all, list_any};
 ghost use Rattle.native_layout.specs.Shapes.{measure, flat, pointers_in, texts_in, parts_of};
 
@@ -10,9 +10,10 @@ use crate::shapes::Shape;
 pub const MOST_PARTS: u64 = 1 << 20;
 
 /// Whether a shape is flat: an integer, a character of two bytes, or a struct of nothing but integers and such structs.
-/// A pointer of a program counts as an integer of 8 bytes.
+/// A pointer of a program counts as an integer of 8 bytes. No pointer that plhost writes stands in a flat shape.
 pub fn is_flat(shape: &Shape) -> bool
-    ensures { result ≡ flat shape.now }
+    ensures value { result ≡ flat shape.now }
+    ensures pointers { result ≡ true → pointers_in shape.now ≡ false }
 {
     match shape {
         Shape::Char(width) => *width == 2,
@@ -65,7 +66,8 @@ pub fn scalar_parts(shape: &Shape) -> u64
 /// Whether a shape is an integer, or a struct of nothing else.
 #[cycle(integral)]
 pub fn is_integral(shape: &Shape) -> bool
-    ensures { result ≡ (measure shape.now).integral }
+    ensures value { result ≡ (measure shape.now).integral }
+    ensures pointers { result ≡ true → pointers_in shape.now ≡ false }
 {
     match shape {
         Shape::Int(..) | Shape::Native(_) => true,
@@ -77,7 +79,8 @@ pub fn is_integral(shape: &Shape) -> bool
 /// Whether each shape is an integer, or a struct of nothing else.
 #[cycle(integral)]
 pub fn are_integral(shapes: &[Shape]) -> bool
-    ensures { result ≡ list_all (λ m. m.integral) (map measure shapes.now) }
+    ensures value { result ≡ list_all (λ m. m.integral) (map measure shapes.now) }
+    ensures pointers { result ≡ true → list_any (λ f. f) (map pointers_in shapes.now) ≡ false }
 {
     for shape in shapes {
         if !is_integral(shape) {

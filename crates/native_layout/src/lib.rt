@@ -3,6 +3,7 @@
 
 mod contents;
 mod extent;
+pub mod laws;
 mod layouts;
 mod offsets;
 mod overlap;
