@@ -1,2 +1,4 @@
 pub mod Computed
+pub mod Marking
+pub mod OneRow
 pub mod Orderly

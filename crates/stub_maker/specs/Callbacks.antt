@@ -27,7 +27,7 @@ pub record Counted : Type 0 where
   pub count : Option ℕ
   pub parameter : Option ℕ
 
--- bit 0 of the flag, 1 where there is no flag, says that the parameter's number is used (ECMA-335 II.23.4)
+-- bit 0 of the flag, 1 where there is no flag, says that the parameter's number is used
 abbrev pub is_used : Option ℕ → Bool
 is_used None = true
 is_used (Some flag) = flag % 2 == 1

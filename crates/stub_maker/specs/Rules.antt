@@ -77,12 +77,16 @@ with_mark e (Some m) = Ok (record { entry = e; mark = m })
 abbrev pub laid : {A : Type 0} → Shape → A → Result A Why
 laid s value = if is_laid_out s then Ok value else Err why.Layout
 
--- a parameter by the columns of what is passed by value and by reference: its entry, then its mark, then its layout
+-- a parameter in a column: its entry, then its mark, then its layout
+abbrev pub marked_in : Known → Bool → Column → Passed → Result Marked Why
+marked_in known unicode column p =
+    and_then (λ m. laid m.entry.shape m)
+    (and_then (λ e. with_mark e (mark_in e.cell p.flags)) (entry_in known unicode column p))
+
+-- the same by the columns of what is passed by value and by reference
 abbrev pub marked : Known → Bool → Column → Column → Passed → Result Marked Why
 marked known unicode by_value by_reference p =
-    and_then (λ m. laid m.entry.shape m)
-    (and_then (λ e. with_mark e (mark_in e.cell p.flags))
-    (entry_in known unicode (if p.reference then by_reference else by_value) p))
+    marked_in known unicode (if p.reference then by_reference else by_value) p
 
 -- how a text is written; no other shape stands where a text does
 abbrev pub encoding_in : Shape → Enc

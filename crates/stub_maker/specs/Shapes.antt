@@ -5,7 +5,7 @@ use Rattle.std.specs.Option.{option_and_then, option_map}
 use Rattle.native_layout.specs.declared.shapes.Shape as shape
 use Rattle.native_layout.specs.declared.shapes.Shape.{Shape}
 use Rattle.native_layout.specs.declared.shapes.StructShape.{StructShape}
-use Rattle.native_layout.specs.Shapes.{flat}
+use Rattle.native_layout.specs.Shapes.{flat, pointers_in}
 use Rattle.marshal_spec.specs.declared.spec.Spec.TheVariants.{Plain, ByValText, ByValArray, LpArray}
 use Rattle.stub_maker.specs.declared.kinds.Kind.{Kind}
 use Rattle.stub_maker.specs.declared.kinds.Form.{Form}
@@ -50,16 +50,16 @@ pub record Entry : Type 0 where
 
 abbrev pub entry_if : Cell → Option Shape → Option Entry
 entry_if cell None = None
-entry_if cell (Some s) = when (admits cell s) (Some (record { cell = cell; shape = s }))
+entry_if cell (Some s) = when (admits cell (flat s) (pointers_in s)) (Some (record { cell = cell; shape = s }))
+
+abbrev pub or_else : {A : Type 0} → Option A → Option A → Option A
+or_else (Some a) rest = Some a
+or_else None rest = rest
 
 -- the first of some rows in which a type crosses in a column, by its shape in each
 abbrev pub first_entry : (Row → Option Shape) → Column → List Row → Option Entry
 first_entry shape_in column [] = None
 first_entry shape_in column (r ∷ rs) = or_else (entry_if (cell_at r column) (shape_in r)) (first_entry shape_in column rs)
-  where
-    or_else : Option Entry → Option Entry → Option Entry
-    or_else (Some e) rest = Some e
-    or_else None rest = rest
 
 abbrev pub described : Option ℕ → Descriptor
 described None = Nothing

@@ -1,8 +1,6 @@
 -- The marshalling table: how the types of a row cross, by where they stand. What crosses is outside of it where its row's cell
 -- says so, and where no row speaks of it.
 use Rattle.std.specs.Prelude.{ℕ, Bool, true, false, not, List, [], ◌∷◌, slice_index_or}
-use Rattle.native_layout.specs.declared.shapes.Shape.{Shape}
-use Rattle.native_layout.specs.Shapes.{flat, pointers_in}
 use Rattle.stub_maker.specs.declared.table.Row.{Row}
 use Rattle.stub_maker.specs.declared.table.Row.TheVariants.{Integers, Booleans, Characters, Pointers, Texts, InlineTexts, Structs, FlatArrays, OtherArrays, InlineArrays, Delegates, Handles}
 use Rattle.stub_maker.specs.declared.table.Column.{Column}
@@ -45,10 +43,10 @@ rows =
     Integers ∷ Booleans ∷ Characters ∷ Pointers ∷ Texts ∷ InlineTexts ∷ Structs ∷ FlatArrays ∷ OtherArrays ∷ InlineArrays
     ∷ Delegates ∷ Handles ∷ []
 
--- whether a cell lets a type of this shape cross
-abbrev pub admits : Cell → Shape → Bool
-admits Outside shape = false
-admits PlainValue shape = not (pointers_in shape)
-admits PlainPlace shape = not (pointers_in shape)
-admits FlatPart shape = flat shape
-admits _ shape = true
+-- whether a cell lets a type cross whose shape is flat, or whose shape holds pointers
+abbrev pub admits : Cell → Bool → Bool → Bool
+admits Outside is_flat has_pointers = false
+admits PlainValue is_flat has_pointers = not has_pointers
+admits PlainPlace is_flat has_pointers = not has_pointers
+admits FlatPart is_flat has_pointers = is_flat
+admits _ is_flat has_pointers = true

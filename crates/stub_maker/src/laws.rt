@@ -9,8 +9,8 @@ pub fn stubs_are_orderly()
     ensures { StubsAreOrderly }
 {}
 
-/// The definitions answer the rows that were worked out by hand: each row and each column of the marshalling table, and each
-/// reason for a refusal.
+/// The definitions answer the rows that were worked out by hand: parameters and results of imports and callbacks, and fields,
+/// of each row of the marshalling table but that of value types.
 pub fn rows_are_answered()
     ensures { RowsAreAnswered }
 {}
