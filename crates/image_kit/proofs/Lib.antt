@@ -5,3 +5,5 @@ pub mod Symbols
 pub mod CodeSizes
 pub mod LibraryLaw
 pub mod Fitting
+pub mod PieceLists
+pub mod PlanPieces

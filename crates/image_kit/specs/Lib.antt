@@ -1,2 +1,5 @@
 pub mod LibraryFile
 pub mod LibraryReads
+pub mod AssemblyFile
+pub mod AssemblyPlaces
+pub mod AssemblyReads

@@ -20,7 +20,7 @@ use bound_base::{BadImage, Part};
 /// The tables whose cells are checked: Module, TypeRef, TypeDef, Field, MethodDef, Param,
 /// InterfaceImpl, MemberRef, FieldMarshal, ClassLayout, FieldLayout, StandAloneSig, MethodImpl,
 /// ModuleRef, TypeSpec, ImplMap, FieldRVA, AssemblyRef and NestedClass.
-static CHECKED_TABLES: [u8; 19] = [
+pub static CHECKED_TABLES: [u8; 19] = [
     0x00, 0x01, 0x02, 0x04, 0x06, 0x08, 0x09, 0x0A, 0x0D, 0x0F, 0x10, 0x11, 0x19, 0x1A, 0x1B, 0x1C,
     0x1D, 0x23, 0x29,
 ];
@@ -90,7 +90,7 @@ fn check_row(
 
 /// Whether a cell holds what its column may hold, with the same cell of the row before.
 #[tactic(auto, unfolding(crate::specs::Cells::sound_by))]
-fn is_sound(heaps: &Heaps<'_>, rows: &[u32], column: Column, before: u32, value: u32) -> bool
+pub fn is_sound(heaps: &Heaps<'_>, rows: &[u32], column: Column, before: u32, value: u32) -> bool
     ensures { result ≡ sound_by (sizes_of heaps.now rows.now) (view_column column) before value }
 {
     match column {

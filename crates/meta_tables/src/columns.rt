@@ -23,6 +23,7 @@ pub enum Width {
 }
 
 impl Width {
+    /// How many bytes these are.
     pub fn bytes(self) -> usize
         ensures bytes { result ≡ bytes_of self }
         ensures small { result ≤ 4 }
@@ -80,6 +81,7 @@ pub struct Tags {
 }
 
 impl CodedIndex {
+    /// The bits of the tag, and the table of each tag (II.24.2.6).
     pub fn tags(self) -> Tags
         ensures value { CodedRow result.bits result.tables.now ≡ view_coded self }
         ensures few { result.bits ≤ 5 }

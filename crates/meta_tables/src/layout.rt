@@ -70,7 +70,7 @@ fn is_there(valid: u64, table: u8) -> bool
 }
 
 /// Whether a number is that of a table.
-fn is_table(table: u8) -> bool
+pub fn is_table(table: u8) -> bool
     ensures { result ≡ names_table table }
 {
     !columns(table).is_empty()
@@ -185,8 +185,8 @@ fn total(widths: &[Width; 9]) -> usize
     total
 }
 
-/// The shape of a table's rows.
-fn shape_rows(heap_sizes: u8, rows: &[u32], table: u8) -> Shape
+/// The shape of a table's rows, by HeapSizes and the row count of each table.
+pub fn shape_rows(heap_sizes: u8, rows: &[u32], table: u8) -> Shape
     ensures shape { view_shape result ≡ shape_of heap_sizes rows.now table }
     ensures small { result.row_width ≤ 36 }
 {

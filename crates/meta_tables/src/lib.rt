@@ -2,7 +2,7 @@
 #![tactic(auto)]
 
 mod cells;
-mod columns;
+pub mod columns;
 mod fields;
 mod heaps;
 mod layout;
@@ -11,6 +11,9 @@ mod rows;
 mod streams;
 mod table_names;
 
+pub use cells::{CHECKED_TABLES, is_sound};
+pub use heaps::Heaps;
+pub use layout::{Shape, is_table, shape_rows};
 pub use meta::{Meta, read_meta};
 pub use table_names::{
     IMPL_MAP, IMPL_MAP_IMPORT_NAME, IMPL_MAP_IMPORT_SCOPE, MODULE_REF, MODULE_REF_NAME,
