@@ -3,10 +3,12 @@
 //! that has none of the verbs is printed as it is.
 #![tactic(auto)]
 
+mod assembly_plans;
 mod headers;
 mod hexadecimal;
 mod metadata;
 
+use assembly_plans::Draft;
 use headers::{print_bytes_at, print_headers, print_rest_at};
 use hexadecimal::put_over;
 use metadata::{Question, print_metadata, question_of};
@@ -16,6 +18,7 @@ use std::io::{BufRead, BufReader};
 /// What the cases so far have made: a file, and the range of its metadata.
 #[derive(Drop)]
 struct Case {
+    draft: Draft,
     file: Vec<u8>,
     at: u64,
     size: u32,
@@ -23,6 +26,7 @@ struct Case {
 
 fn main(rt: HostRuntime) -> anyhow::Result<()> {
     let mut case = Case {
+        draft: Draft::new(rt.alloc()),
         file: Vec::new(rt.alloc()),
         at: 0,
         size: 0,
@@ -30,11 +34,29 @@ fn main(rt: HostRuntime) -> anyhow::Result<()> {
     for line in BufReader::new(rt.alloc(), rt.reader())?.lines(rt.alloc()) {
         let line = line?;
         let words: Vec<&str> = line.split_whitespace().collect(rt.alloc())?;
-        if !change(rt.alloc(), &mut case, &words)? && !ask_headers(&rt, &case, &words)? {
+        if !make(&rt, &mut case, &words)?
+            && !change(rt.alloc(), &mut case, &words)?
+            && !ask_headers(&rt, &case, &words)? {
             ask_metadata(&rt, &case, &words, line.as_str())?;
         }
     }
     Ok(())
+}
+
+/// Plans an assembly or makes the file of the plan where the verb does, and tells whether it does.
+fn make(rt: &(impl Print + AllocGlobal), case: &mut Case, words: &[&str]) -> anyhow::Result<bool> {
+    if *words != ["plan_file"] {
+        return case.draft.plan(rt.alloc(), words);
+    }
+    let draft = std::mem::replace(&mut case.draft, Draft::new(rt.alloc()));
+    match draft.file(rt.alloc())? {
+        Some(file) => {
+            case.file = file.into_vec();
+            println!(rt; "file of {} bytes", case.file.len())?;
+        }
+        None => println!(rt; "doesn't fit")?,
+    }
+    Ok(true)
 }
 
 /// Changes the file or the range where the verb does, and tells whether it does.

@@ -7,3 +7,11 @@ pub mod LibraryLaw
 pub mod Fitting
 pub mod PieceLists
 pub mod PlanPieces
+pub mod AssemblyPadded
+pub mod AssemblyHead
+pub mod AssemblyStreams
+pub mod AssemblyLayout
+pub mod AssemblyRows
+pub mod AssemblyFits
+pub mod AssemblyBodies
+pub mod AssemblyLaw

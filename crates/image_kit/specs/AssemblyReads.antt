@@ -1,17 +1,18 @@
 -- When a plan of an assembly fits, and what its file is read as.
-use Rattle.std.specs.Prelude.{◌≤◌, ℕ, zero, suc, ◌+◌, ◌^◌, Bool, true, ◌&&◌, ◌==◌, nat_le, nat_lt, List, [], ◌∷◌, length, map, count_by, slice_index, slice_index_or, slice_get, IsTrue}
+use Rattle.std.specs.Prelude.{◌<◌, ◌≡◌, ◌≤◌, ℕ, zero, suc, ◌+◌, ◌^◌, Bool, true, ◌&&◌, ◌==◌, nat_le, nat_lt, List, [], ◌∷◌, length, map, count_by, slice_index, slice_index_or, slice_get, IsTrue, Ok, Some, ◌-◌, ◌%◌, ◌≢◌, All}
 use Rattle.std.specs.List.{range_with_len, list_all}
 use Rattle.byte_view.specs.Columns.{Column, is_table, columns, table_numbers}
 use Rattle.byte_view.specs.TableNames.{method_def}
-use Rattle.byte_view.specs.Headers.{Headers}
+use Rattle.byte_view.specs.Headers.{Headers, bytes_at}
 use Rattle.byte_view.specs.Layout.{Layout, table_start}
 use Rattle.byte_view.specs.Metadata.{Metadata}
-use Rattle.byte_view.specs.Cells.{checked_tables}
+use Rattle.byte_view.specs.Assembly.{image}
+use Rattle.byte_view.specs.Cells.{checked_tables, rows_in, value_in}
 use Rattle.meta_tables.specs.Cells.{Sizes, sound_in}
 use Rattle.image_kit.specs.declared.assembly_plan.TablePlan.{TablePlan}
 use Rattle.image_kit.specs.declared.assembly_plan.MethodBody.{MethodBody}
 use Rattle.image_kit.specs.declared.assembly_plan.AssemblyPlan.{AssemblyPlan}
-use Rattle.image_kit.specs.AssemblyFile.{zeros, rows_among, row_count, row_counts, heap_sizes, widths, written_row, valid, tables_offset, metadata_place, metadata_size, guids, section_rva, section_place, raw_size, assembly_end}
+use Rattle.image_kit.specs.AssemblyFile.{zeros, rows_among, row_count, row_counts, heap_sizes, widths, written_row, valid, tables_offset, metadata_place, metadata_size, guids, section_rva, section_place, raw_size, assembly_end, assembly_file}
 use Rattle.image_kit.specs.LibraryReads.{file_limit}
 
 -- each of the numbers 0 to n - 1 passes a test
@@ -91,6 +92,7 @@ pub record Fits (plan : AssemblyPlan) : Type 0 where
   pub cells : IsTrue (list_all (is_sound_table plan) checked_tables)
   pub bodies : IsTrue (are_only_bodies plan)
   pub small : assembly_end plan ≤ file_limit
+  pub entry : plan.entry < 2 ^ 32
 
 -- the headers: one section, the CLI header at its start, and the metadata in it
 abbrev pub planned_headers : AssemblyPlan → Headers
@@ -125,3 +127,40 @@ planned_metadata plan = record {
   layout = planned_layout plan;
   tables = map (written_rows plan) (range_with_len 0 table_numbers);
 }
+
+-- A body stands where the row of its method says: the bytes at the row's RVA, which is a multiple of
+-- four.
+pub record BodyReads (plan : AssemblyPlan) (file : List ℕ) (body : MethodBody) : Type 0 where
+  pub rva : ℕ
+  pub in_row : value_in (planned_metadata plan) method_def (body.method - 1) 0 ≡ rva
+  pub bytes_are : bytes_at file (planned_headers plan).sections rva (length body.bytes)
+      ≡ Some body.bytes
+  pub aligned : rva % 4 ≡ 0
+
+-- The rows of a table are the plan's, but for the RVAs of methods: of such a cell, the number is the
+-- plan's where the method has no body.
+pub record RowsRead (plan : AssemblyPlan) (table : TablePlan) : Type 0 where
+  pub count : rows_in (planned_metadata plan) table.number ≡ length table.rows
+  pub cells : (row column : ℕ) → row < length table.rows
+      → ¬ ((table.number ≡ method_def) × (column ≡ 0))
+      → value_in (planned_metadata plan) table.number row column
+      ≡ slice_index (slice_index_or table.rows row []) column
+  pub rvas : (row : ℕ) → row < length table.rows → table.number ≡ method_def
+      → All (λ body. body.method ≢ row + 1) plan.bodies
+      → value_in (planned_metadata plan) table.number row 0
+      ≡ slice_index (slice_index_or table.rows row []) 0
+
+-- The file reads back as its plan: its headers, its heaps, where its tables lie and what its rows are;
+-- each table's rows are the plan's, but for RVAs, and at these stand the bodies.
+pub record ReadsBack (plan : AssemblyPlan) (file : List ℕ) : Type 0 where
+  pub size : length file ≡ assembly_end plan
+  pub image_is : image file
+      ≡ Ok (record { headers = planned_headers plan; metadata = planned_metadata plan })
+  pub rows : (k : ℕ) (table : TablePlan) → slice_get plan.tables k ≡ Some table
+      → RowsRead plan table
+  pub bodies : (k : ℕ) (body : MethodBody) → slice_get plan.bodies k ≡ Some body
+      → BodyReads plan file body
+
+-- the file of each plan that fits reads back as the plan
+abbrev pub AssembliesReadBack : Type 0
+AssembliesReadBack = (plan : AssemblyPlan) → Fits plan → ReadsBack plan (assembly_file plan)

@@ -3,7 +3,7 @@
 ghost use Rattle.std.specs.Prelude.{◌≡◌, ◌+◌, ◌*◌, ◌≤◌, ◌++◌, length, IfOk, OnOk};
 ghost use Rattle.image_kit.specs.AssemblyFile.{heap_sizes, row_counts, rows_among, assembly_end, metadata_bytes, assembly_file};
 ghost use Rattle.image_kit.specs.AssemblyPlaces.{ArePlaces};
-ghost use Rattle.image_kit.specs.AssemblyReads.{Fits};
+ghost use Rattle.image_kit.specs.AssemblyReads.{Fits, ReadsBack};
 
 use crate::assembly_plan::AssemblyPlan;
 use crate::metadata_root::{put_bodies, put_heaps, put_metadata_root, put_stream_headers};
@@ -20,6 +20,7 @@ use std::alloc::{AllocError, Global};
 pub fn assembly(alloc: Global, p: &AssemblyPlan) -> Result<Bytes, NoMemory>
     requires { Fits p.now }
     ensures file { IfOk result (λ bytes. bytes ≡ assembly_file p.now) }
+    ensures read { IfOk result (λ bytes. ReadsBack p.now bytes) }
 {
     let mut out = Bytes::new(alloc);
     put_assembly(&mut out, p)?;

@@ -46,6 +46,7 @@ impl AssemblyPlan {
         if !bodies_are_alone(self) {
             return false;
         }
+        let _token = self.entry;
         is_small(self, &sizes)
     }
 }

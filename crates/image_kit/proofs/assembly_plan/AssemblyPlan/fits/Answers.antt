@@ -1,4 +1,4 @@
-use Rattle.std.proofs.Common.{sym, ◌∙◌}
+use Rattle.std.proofs.Common.{sym, ◌∙◌, arith}
 use Rattle.image_kit.specs.AssemblyReads.{Fits}
 use Rattle.image_kit.proofs.PlanPieces.{refused}
 use Rattle.image_kit.proofs.assembly_plan.AssemblyPlan.fits.Goals as goal
@@ -27,6 +27,7 @@ returns c = (
     cells = sym c.cells_are_sound.ensures ∙ c.if-not-cells_are_sound.false;
     bodies = sym c.bodies_are_alone.ensures ∙ c.if-not-bodies_are_alone.false;
     small = c.is_small.ensures.0 small;
+    entry = omega arith;
   },
   λ fits. c.is_small.ensures.1 fits.small,
 )
