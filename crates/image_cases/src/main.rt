@@ -10,7 +10,7 @@ mod metadata;
 
 use assembly_plans::Draft;
 use headers::{print_bytes_at, print_headers, print_rest_at};
-use hexadecimal::put_over;
+use hexadecimal::{print_bytes, put_over};
 use metadata::{Question, print_metadata, question_of};
 use std::alloc::Global;
 use std::io::{BufRead, BufReader};
@@ -36,7 +36,8 @@ fn main(rt: HostRuntime) -> anyhow::Result<()> {
         let words: Vec<&str> = line.split_whitespace().collect(rt.alloc())?;
         if !make(&rt, &mut case, &words)?
             && !change(rt.alloc(), &mut case, &words)?
-            && !ask_headers(&rt, &case, &words)? {
+            && !ask_headers(&rt, &case, &words)?
+        {
             ask_metadata(&rt, &case, &words, line.as_str())?;
         }
     }
@@ -45,7 +46,7 @@ fn main(rt: HostRuntime) -> anyhow::Result<()> {
 
 /// Plans an assembly or makes the file of the plan where the verb does, and tells whether it does.
 fn make(rt: &(impl Print + AllocGlobal), case: &mut Case, words: &[&str]) -> anyhow::Result<bool> {
-    if *words != ["plan_file"] {
+    if words != ["plan_file"].as_slice() {
         return case.draft.plan(rt.alloc(), words);
     }
     let draft = std::mem::replace(&mut case.draft, Draft::new(rt.alloc()));
@@ -85,6 +86,7 @@ fn ask_headers(
 ) -> anyhow::Result<bool> {
     match *words {
         ["headers"] => print_headers(rt, &case.file)?,
+        ["file"] => print_bytes(rt, Some(&case.file))?,
         ["headers_with", at, bytes] => {
             let file = patched(rt.alloc(), &case.file, at, bytes)?;
             print_headers(rt, &file)?;
