@@ -1,5 +1,6 @@
--- The grammar of marshalling descriptors (ECMA-335 II.23.4): which bytes spell which descriptor. A
--- descriptor may have several spellings; bytes spell one descriptor at most.
+-- The grammar of marshalling descriptors: which bytes spell which descriptor (ECMA-335 II.23.4; the
+-- flag of an LPArray is what the runtimes have beside it). A descriptor may have several spellings;
+-- bytes spell one descriptor at most.
 use Rattle.std.specs.Prelude.{◌≡◌, ◌≤◌, ℕ, List, [], ◌∷◌, ◌++◌, length, take, Option, Some, None}
 use Rattle.byte_view.specs.Numbers.{compressed_at}
 use Rattle.marshal_spec.specs.declared.spec.Spec.{Spec}

@@ -12,8 +12,8 @@ pub enum Spec {
     /// An array that stands in place (ByValArray): how many elements, and their native type.
     ByValArray(u32, Option<u8>),
     /// An array behind a pointer (LPArray): the native type of its elements, the number of the
-    /// parameter that holds its length, a count of elements, and the flag, whose bit 0 says that
-    /// the parameter's number is used.
+    /// parameter that holds its length, a count of elements, and a flag, which the standard doesn't
+    /// have; its bit 0 says that the parameter's number is used.
     LpArray(Option<u8>, Option<u32>, Option<u32>, Option<u32>),
 }
 

@@ -1,9 +1,9 @@
 //! Writes descriptors.
 
-ghost use Rattle.std.specs.Prelude.{◌≡◌, ◌++◌, ◌^◌, ◌<◌, IfOk, OnOk};
-ghost use Rattle.marshal_spec.specs.Written.{IsSpec, IsSmall, written, written_number, written_code, shortest, code_or_none};
+ghost use Rattle.std.specs.Prelude.{◌≡◌, ◌++◌, ◌^◌, ◌<◌, ◌↔◌, IsTrue, IfOk, OnOk};
+ghost use Rattle.marshal_spec.specs.Written.{IsSpec, IsSmall, IsPlainIfThere, Follows, written, written_number, written_code, shortest, code_or_none};
 
-use crate::native_types::{BY_VAL_ARRAY, BY_VAL_TEXT, LP_ARRAY, NO_ELEMENT};
+use crate::native_types::{BY_VAL_ARRAY, BY_VAL_TEXT, LP_ARRAY, NO_ELEMENT, is_plain};
 use crate::spec::Spec;
 use bound_base::{Bytes, NoMemory};
 use std::alloc::Global;
@@ -36,6 +36,51 @@ pub fn write_spec(alloc: Global, spec: &Spec) -> Result<Bytes, NoMemory>
         }
     }
     Ok(bytes)
+}
+
+/// Whether a descriptor has a spelling: its codes are those of native types without parts, its numbers
+/// are below 2^29, and none stands after a missing one.
+pub fn is_spec(spec: &Spec) -> bool
+    ensures { IsTrue result ↔ IsSpec spec.now }
+{
+    match *spec {
+        Spec::Plain(code) => is_plain(code),
+        Spec::ByValText(count) => count < 0x2000_0000,
+        Spec::ByValArray(count, element) => count < 0x2000_0000 && is_element(element),
+        Spec::LpArray(element, parameter, count, flag) => {
+            is_element(element)
+                && is_small(parameter)
+                && is_small(count)
+                && is_small(flag)
+                && follows(parameter, count)
+                && follows(count, flag)
+        }
+    }
+}
+
+fn is_element(code: Option<u8>) -> bool
+    ensures { IsTrue result ↔ IsPlainIfThere code }
+{
+    match code {
+        Some(code) => is_plain(code),
+        None => true,
+    }
+}
+
+fn is_small(number: Option<u32>) -> bool
+    ensures { IsTrue result ↔ IsSmall number }
+{
+    match number {
+        Some(n) => n < 0x2000_0000,
+        None => true,
+    }
+}
+
+/// Whether one number may stand after another: not where that is missing.
+fn follows(before: Option<u32>, after: Option<u32>) -> bool
+    ensures { IsTrue result ↔ Follows before after }
+{
+    before.is_some() || after.is_none()
 }
 
 /// Adds the code of a native type, where there is one.
