@@ -3,8 +3,10 @@
 //! there are none. A line that begins with `#` is printed as it is.
 #![tactic(auto)]
 
+mod descriptors;
 mod hexadecimal;
 mod signatures;
+mod values;
 
 use anyhow::bail;
 use std::io::{BufRead, BufReader};
@@ -24,7 +26,10 @@ fn main(rt: HostRuntime) -> anyhow::Result<()> {
 
 /// Prints what one case gives, by the first group of calls that knows it.
 fn print_case(rt: &HostRuntime, words: &[&str]) -> anyhow::Result<()> {
-    if signatures::print(rt, words)? {
+    if signatures::print(rt, words)?
+        || descriptors::print(rt, words)?
+        || values::print(rt, words)?
+    {
         return Ok(());
     }
     bail!("a case that no group knows")
