@@ -1,0 +1,4 @@
+pub mod Joined
+pub mod Walks
+pub mod CoreViews
+pub mod Chains

@@ -1,0 +1,13 @@
+pub mod Module
+pub mod Rows
+pub mod Core
+pub mod View
+pub mod TypeIds
+pub mod Types
+pub mod Members
+pub mod FullNames
+pub mod Holding
+pub mod MemberViews
+pub mod Part
+pub mod EntryPoint
+pub mod Subtypes

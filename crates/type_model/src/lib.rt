@@ -1,0 +1,17 @@
+//! The types of an assembly and their members (ECMA-335 II.10, II.22): what a token names, what a type extends and holds,
+//! and which methods are imports.
+#![tactic(auto)]
+
+mod core_types;
+mod fields;
+mod heaps;
+mod members;
+mod model;
+mod module;
+mod signatures;
+mod table;
+mod table_numbers;
+mod type_ids;
+
+pub use members::{FieldRow, Import, Marshalled, MethodRow, TypeRow};
+pub use model::Types;

@@ -1,0 +1,192 @@
+//! An assembly as its types are read from it: a copy of the file, of its heaps and of its rows.
+
+ghost use Rattle.std.specs.Prelude.{◌≡◌, ◌<◌, ◌≤◌, ◌+◌, ◌-◌, position, IfSome, ◌^◌, ◌==◌, find, slice_index, length};
+ghost use Rattle.std.specs.Option.{option_copied};
+ghost use Rattle.byte_view.specs.Headers.{bytes_at as bytes_of_range, bytes_from};
+ghost use Rattle.type_model.specs.Module.{rows as rows_in, row as row_of, cell as cell_of, first_with as first_row_with, row_count as rows_of, text as text_of, blob as blob_of};
+ghost use Rattle.type_model.specs.Rows.{run_end as end_of_run, owner as owner_of, type_defs};
+ghost use Rattle.type_model.specs.TypeIds.{is_row as is_row_of, type_def_named as first_named, has_name};
+
+use crate::heaps::{entry_at, text_at};
+use crate::table::{Row, Table};
+use crate::table_numbers::{ROW_LIMIT, TYPE_DEFS};
+use bound_base::{Bytes, Items};
+use pe_reader::{Pe, at_rva, rest_at};
+use std::marker::Model;
+
+/// An assembly of which the headers and the metadata were read.
+#[derive(Drop)]
+pub struct Module {
+    file: Bytes,
+    pe: Pe,
+    strings: Bytes,
+    user_strings: Bytes,
+    blobs: Bytes,
+    tables: Items<Table>,
+}
+
+impl Model for Module {
+    ghost use Rattle.type_model.specs.Module.{Module as ModuleValue};
+    ghost use Rattle.pe_reader.specs.Pe.{headers_of};
+
+    ghost Value = { ModuleValue };
+
+    ghost view = { λ m. record {
+      bytes = m.file;
+      headers = headers_of m.pe;
+      strings = m.strings;
+      user_strings = m.user_strings;
+      blobs = m.blobs;
+      tables = m.tables;
+    } };
+}
+
+impl Module {
+    /// The token of the entry point.
+    pub fn entry_token(&self) -> u32
+        ensures { result ≡ self.now.headers.entry }
+    {
+        self.pe.entry
+    }
+
+    /// The file offset of the CLI header.
+    pub fn cli_header(&self) -> u64
+        ensures { result ≡ self.now.headers.cli_at }
+    {
+        self.pe.cli_at
+    }
+
+    /// The rows of a table.
+    pub fn rows(&self, table: u8) -> &[Row]
+        ensures rows { result.now ≡ rows_in self.now table }
+        ensures few { length result.now < 2 ^ 32 }
+    {
+        match self.tables.get(table as usize) {
+            Some(table) => table.rows(),
+            None => &[],
+        }
+    }
+
+    /// How many rows a table has.
+    pub fn row_count(&self, table: u8) -> u32
+        ensures { result ≡ rows_of self.now table }
+    {
+        self.rows(table).len() as u32
+    }
+
+    /// A row by its number, from 1.
+    pub fn row(&self, table: u8, n: u64) -> Option<&Row>
+        ensures { option_copied result ≡ row_of self.now table n }
+    {
+        if n == 0 {
+            return None;
+        }
+        self.rows(table).get(n as usize - 1)
+    }
+
+    /// The number in a cell, by its row's number from 1; 0 where there is no such row.
+    #[tactic(auto, unfolding(crate::specs::Module::cell))]
+    pub fn cell(&self, table: u8, n: u64, column: usize) -> u32
+        requires { column < 9 }
+        ensures { result ≡ cell_of self.now table n column }
+    {
+        match self.row(table, n) {
+            Some(row) => row[column],
+            None => 0,
+        }
+    }
+
+    /// The first row that has a number in a column.
+    #[tactic(auto, unfolding(crate::specs::Module::first_with))]
+    pub fn first_with(&self, table: u8, column: usize, value: u64) -> Option<&Row>
+        requires { column < 9 }
+        ensures { option_copied result ≡ first_row_with self.now table column value }
+    {
+        self.rows(table)
+            .iter()
+            .find(|row| u64::from(row[column]) == value)
+    }
+
+    /// Whether a token may name a row of a table: one that is there, and has 24 bits.
+    pub fn is_row(&self, table: u8, n: u32) -> bool
+        ensures { result ≡ is_row_of self.now table n }
+    {
+        1 <= n && n <= self.row_count(table) && n < ROW_LIMIT
+    }
+
+    /// The row of the first TypeDef that has a namespace and a name.
+    #[tactic(auto, unfolding(crate::specs::TypeIds::type_def_named))]
+    pub fn type_def_named(&self, namespace: &[u8], name: &[u8]) -> Option<u32>
+        ensures { result ≡ first_named self.now namespace.now name.now }
+    {
+        let place = self.place_named(namespace, name)?;
+        Some(place as u32 + 1)
+    }
+
+    /// The place of that row, counted from 0.
+    fn place_named(&self, namespace: &[u8], name: &[u8]) -> Option<usize>
+        ensures place { result ≡ position (has_name self.now namespace.now name.now)
+            (rows_in self.now type_defs) }
+        ensures few { IfSome result (λ place. place + 1 < 2 ^ 32) }
+    {
+        self.rows(TYPE_DEFS).iter().position(|row| self.text(row[1]) == name
+            && self.text(row[2]) == namespace)
+    }
+
+    /// Where a run of rows ends that a row of TypeDef or MethodDef begins: at the next row's, or after the last row.
+    #[tactic(auto, unfolding(crate::specs::Rows::run_end))]
+    pub fn run_end(&self, table: u8, n: u32, column: usize, of: u8) -> u64
+        requires { column < 9 }
+        ensures end { result ≡ end_of_run self.now table n column of }
+        ensures small { result ≤ 2 ^ 32 }
+    {
+        if n < self.row_count(table) {
+            u64::from(self.cell(table, u64::from(n) + 1, column))
+        } else {
+            u64::from(self.row_count(of)) + 1
+        }
+    }
+
+    /// The row of TypeDef whose run, by its column, has a row; 0 for a row before the first run.
+    #[tactic(auto, unfolding(crate::specs::Rows::owner))]
+    pub fn owner(&self, column: usize, n: u32) -> u32
+        requires { column < 9 }
+        ensures { result ≡ owner_of self.now column n }
+    {
+        match self.tables.get(TYPE_DEFS as usize) {
+            Some(table) => table.count_not_above(column, n),
+            None => 0,
+        }
+    }
+
+    /// The text at an offset of `#Strings`, empty where no whole entry is there.
+    #[tactic(auto, unfolding(crate::specs::Module::text))]
+    pub fn text(&self, at: u32) -> &[u8]
+        ensures { result.now ≡ text_of self.now at }
+    {
+        text_at(self.strings.as_slice(), at as usize).unwrap_or(&[])
+    }
+
+    /// The bytes at an offset of `#Blob`, none where no whole entry is there.
+    #[tactic(auto, unfolding(crate::specs::Module::blob))]
+    pub fn blob(&self, at: u32) -> &[u8]
+        ensures { result.now ≡ blob_of self.now at }
+    {
+        entry_at(self.blobs.as_slice(), at as usize).unwrap_or(&[])
+    }
+
+    /// The bytes from an address to the end of its section's raw data.
+    pub fn rest_at(&self, rva: u32) -> Option<&[u8]>
+        ensures { option_copied result ≡ bytes_from self.now.bytes self.now.headers.sections rva }
+    {
+        rest_at(self.file.as_slice(), &self.pe, rva)
+    }
+
+    /// So many bytes from an address on.
+    pub fn bytes_at(&self, rva: u32, len: u32) -> Option<&[u8]>
+        ensures { option_copied result
+            ≡ bytes_of_range self.now.bytes self.now.headers.sections rva len }
+    {
+        at_rva(self.file.as_slice(), &self.pe, rva, len)
+    }
+}
