@@ -2,7 +2,7 @@
 
 ghost use Rattle.std.specs.Prelude.{◌≡◌, ◌+◌, ◌^◌, true, false, min, sum, map};
 ghost use Rattle.std.specs.List.{list_all, list_any};
-ghost use Rattle.native_layout.specs.Shapes.{measure, flat, pointers_in, texts_in, parts_of};
+ghost use Rattle.native_layout.specs.Shapes.{in_order, measure, flat, pointers_in, texts_in, parts_of};
 
 use crate::shapes::Shape;
 
@@ -31,6 +31,22 @@ pub fn has_pointer_cells(shape: &Shape) -> bool
         Shape::InlineArray(_, element, _) => has_pointer_cells(element.get()),
         Shape::Struct(s) => any_has_pointer_cells(s.fields.as_slice()),
         _ => false,
+    }
+}
+
+/// Whether each width in a shape is one that its kind has: 1, 2, 4 or 8 of an integer, 1 or 4 of a bool, 1 or 2 of a
+/// character.
+#[cycle(order)]
+pub fn is_in_order(shape: &Shape) -> bool
+    ensures { result ≡ in_order shape.now }
+{
+    match shape {
+        Shape::Int(width, _) => matches!(*width, 1 | 2 | 4 | 8),
+        Shape::Bool(width) => matches!(*width, 1 | 4),
+        Shape::Char(width) => matches!(*width, 1 | 2),
+        Shape::InlineArray(_, element, _) => is_in_order(element.get()),
+        Shape::Struct(s) => are_in_order(s.fields.as_slice()),
+        _ => true,
     }
 }
 
@@ -123,4 +139,16 @@ fn sum_of_parts(shapes: &[Shape]) -> u64
         sum = (sum + scalar_parts(shape)).min(MOST_PARTS + 1);
     }
     sum
+}
+
+#[cycle(order)]
+fn are_in_order(shapes: &[Shape]) -> bool
+    ensures { result ≡ list_all (λ f. f) (map in_order shapes.now) }
+{
+    for shape in shapes {
+        if !is_in_order(shape) {
+            return false;
+        }
+    }
+    true
 }

@@ -3,7 +3,7 @@
 ghost use Rattle.std.specs.Prelude.{◌≡◌, ◌≤◌, ◌^◌, All, IsTrue, true, false, map, IfOk, None, ◌*◌, if◌then◌else◌};
 ghost use Rattle.std.specs.List.{list_all};
 ghost use Rattle.native_layout.specs.Struct.{first_overlap as first_overlap_of, is_align, is_integral};
-ghost use Rattle.native_layout.specs.Shapes.{in_order, unit_width, measure, measured, struct_in_order};
+ghost use Rattle.native_layout.specs.Shapes.{in_order, measure, measured, struct_in_order, stands};
 ghost use Rattle.native_layout.specs.Answer.{Answers, Passes, layout_of};
 ghost use Rattle.native_layout.specs.Placed.{AreExtents, HasFields, IsMeasured, Measures, cap, finished};
 
@@ -14,6 +14,7 @@ use crate::overlap::first_overlap;
 use crate::placing::{LARGEST_STRUCT, Placed, aligned, greatest_align, in_sequence, is_packing};
 use crate::refused::LayoutBad;
 use crate::shapes::{Layout, Shape, StructShape};
+use bound_base::NoMemory;
 use std::alloc::Global;
 
 /// The sizes up to which extents are counted: more than any offset that can be written.
@@ -34,6 +35,18 @@ pub fn layout(alloc: Global, s: &StructShape) -> Result<Layout, LayoutBad>
 {
     let extents = extents_of(alloc, s.fields.as_slice())?;
     place(alloc, s, extents.as_slice())
+}
+
+/// Whether each struct in a shape can be laid out.
+pub fn can_be_laid_out(alloc: Global, shape: &Shape) -> Result<bool, NoMemory>
+    requires { IsTrue (in_order shape.now) }
+    ensures { IfOk result (λ can. can ≡ stands shape.now) }
+{
+    match extent_of(alloc, shape) {
+        Ok(_) => Ok(true),
+        Err(LayoutBad::Outside(_)) => Ok(false),
+        Err(LayoutBad::Memory) => Err(NoMemory),
+    }
 }
 
 #[cycle(layout)]

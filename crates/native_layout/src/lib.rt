@@ -12,9 +12,9 @@ mod refused;
 mod shapes;
 mod sizes;
 
-pub use contents::{MOST_PARTS, has_pointer_cells, has_texts, is_flat, scalar_parts};
+pub use contents::{MOST_PARTS, has_pointer_cells, has_texts, is_flat, is_in_order, scalar_parts};
 pub use extent::Extent;
-pub use layouts::layout;
+pub use layouts::{can_be_laid_out, layout};
 pub use placing::LARGEST_STRUCT;
 pub use refused::LayoutBad;
 pub use shapes::{Enc, Layout, Offsets, Shape, Shapes, StructShape};
