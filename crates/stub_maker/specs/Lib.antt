@@ -1,6 +1,7 @@
 pub mod Answers
 pub mod Callbacks
 pub mod Crossing
+pub mod Described
 pub mod Entries
 pub mod Examples
 pub mod Extents
