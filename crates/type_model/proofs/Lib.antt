@@ -2,3 +2,10 @@ pub mod Joined
 pub mod Walks
 pub mod CoreViews
 pub mod Chains
+pub mod BaseTables
+pub mod Ranges
+pub mod Held
+pub mod FromOne
+pub mod Unsound
+pub mod Refused
+pub mod Enclosing

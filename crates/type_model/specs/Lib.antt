@@ -8,6 +8,8 @@ pub mod Members
 pub mod FullNames
 pub mod Holding
 pub mod MemberViews
+pub mod BaseTable
 pub mod Part
+pub mod Sound
 pub mod EntryPoint
 pub mod Subtypes

@@ -3,15 +3,19 @@
 #![tactic(auto)]
 
 mod core_types;
+mod edges;
+mod enclosers;
 mod fields;
 mod heaps;
 mod members;
 mod model;
 mod module;
+mod part;
 mod signatures;
 mod table;
 mod table_numbers;
 mod type_ids;
+mod values;
 
 pub use members::{FieldRow, Import, Marshalled, MethodRow, TypeRow};
 pub use model::Types;
