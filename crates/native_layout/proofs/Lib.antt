@@ -5,3 +5,6 @@ pub mod Numbers
 pub mod Positions
 pub mod Sharing
 pub mod Structs
+pub mod Ruled
+pub mod Standing
+pub mod Summaries

@@ -3,7 +3,7 @@ use Rattle.std.proofs.Common.{◌≡◌, ℕ, zero, suc, ◌+◌, ◌-◌, ◌*�
 use Rattle.std.proofs.lemmas.Bool.Decides.{nat_tests}
 use Rattle.std.proofs.lemmas.List.FromFn.{length-map-range_with_len}
 use Rattle.std.proofs.lemmas.List.{length-map, get_or-map, append-nil, drop_all}
-use Rattle.std.proofs.lemmas.List.Elements.{All-map}
+use Rattle.std.proofs.lemmas.List.Elements.{All-head, All-map, All-tail}
 use Rattle.std.specs.Result.{IsErrAnd}
 use Rattle.native_layout.specs.declared.shapes.Shape.{Shape}
 use Rattle.native_layout.specs.Shapes.{extents_of, measure, measured, repeated, scalar, stands}
@@ -342,12 +342,21 @@ ends_within (o ∷ os) reach (e ∷ es) low h =
     let here : unwrap_or o 0 < 2 ^ 32 = low.0 in
     ends_within os (max reach (unwrap_or o 0 + min e.size (2 ^ 32))) es low.1 (omega arith)
 
-pub explicit_within : (s : Struct) (cs : List Extent) (os : List (Option ℕ)) (rs : List Range) → AreRanges s cs os rs → greatest_end 0 rs ≤ 2 ^ 34
-explicit_within s cs os rs are =
-    let low = low_at (offset_at s.offsets) 0 (length s.fields) (extents s) (λ j from to. are.written.small j (omega arith)) in
-    let lie : rs ≡ at_offsets (written s.offsets (length s.fields)) (map cap (extents s)) =
-    are.ranges ∙ (ap (λ o. at_offsets o cs) are.written.value ∙ ap (at_offsets (written s.offsets (length s.fields))) are.extents) in
-    subst (λ (ls : List Range). greatest_end 0 ls ≤ 2 ^ 34) (sym lie) (ends_within (written s.offsets (length s.fields)) 0 (extents s) low (omega arith))
+capped_all : (es : List Extent) → All (λ e. e.size ≤ 2 ^ 32) es → map cap es ≡ es
+capped_all [] small = refl
+capped_all (e ∷ es) small =
+    let size : e.size ≤ 2 ^ 32 = All-head (λ (x : Extent). x.size ≤ 2 ^ 32) e es small in
+    let here : min e.size (2 ^ 32) ≡ e.size = omega arith in
+    rw (here, capped_all es (All-tail (λ (x : Extent). x.size ≤ 2 ^ 32) e es small)) refl
+
+-- ends of fields at offsets of 32 bits
+pub low_ends : (offsets : List (Option ℕ)) (es : List Extent) (os : List (Option ℕ)) (rs : List Range) → AreWritten offsets (length es) os
+    → All (λ e. e.size ≤ 2 ^ 32) es → rs ≡ at_offsets os es → greatest_end 0 rs ≤ 2 ^ 34
+low_ends offsets es os rs at small lie =
+    let w : List (Option ℕ) = written offsets (length es) in
+    let low = low_at (offset_at offsets) 0 (length es) es (λ j from to. at.small j (omega arith)) in
+    let same : rs ≡ at_offsets w (map cap es) = lie ∙ (ap (λ o. at_offsets o es) at.value ∙ ap (at_offsets w) (sym (capped_all es small))) in
+    subst (λ (ls : List Range). greatest_end 0 ls ≤ 2 ^ 34) (sym same) (ends_within w 0 es low (omega arith))
 
 -- ---- what a layout says of the struct as a part
 
@@ -400,7 +409,7 @@ below_of a b h = grind (arith, nat_tests)
 within_of : (a b : ℕ) → nat_lt a b ≡ false → b ≤ a
 within_of a b h = grind (arith, nat_tests)
 
-min_times : (n size most : ℕ) → min (n * min size most) most ≡ min (n * size) most
+pub min_times : (n size most : ℕ) → min (n * min size most) most ≡ min (n * size) most
 min_times zero size most = omega arith
 min_times (suc n) size most = elim (decided (nat_lt most size)) [
   | inl over ↦
@@ -507,7 +516,7 @@ not_false false h = absurd (cc)
 is_below : (a b : ℕ) → a < b → nat_lt a b ≡ true
 is_below a b h = grind (arith, nat_tests)
 
-stand_each : (ms : List Measure) → position (λ m. not m.stands) ms ≡ None → (k : ℕ) (d : Measure) → k < length ms → (get_or ms k d).stands ≡ true
+pub stand_each : (ms : List Measure) → position (λ m. not m.stands) ms ≡ None → (k : ℕ) (d : Measure) → k < length ms → (get_or ms k d).stands ≡ true
 stand_each ms none k d lt = elim (decided (nat_lt k (position_or_len (λ m. not m.stands) ms))) [
   | inl before ↦
       not_false _ (fails_before_first (λ m. not m.stands) ms k d (below_of k _ before))
@@ -518,7 +527,7 @@ stand_each ms none k d lt = elim (decided (nat_lt k (position_or_len (λ m. not 
       absurd (cc)
 ]
 
-all_stand : (shapes : List Shape) → ((k : ℕ) → k < length shapes → (get_or (map measure shapes) k (scalar 1 true)).stands ≡ true) → list_all stands shapes ≡ true
+pub all_stand : (shapes : List Shape) → ((k : ℕ) → k < length shapes → (get_or (map measure shapes) k (scalar 1 true)).stands ≡ true) → list_all stands shapes ≡ true
 all_stand [] each = refl
 all_stand (x ∷ xs) each =
     let here : stands x ≡ true = each 0 (omega arith) in

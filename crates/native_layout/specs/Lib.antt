@@ -4,3 +4,5 @@ pub mod Answer
 pub mod Placed
 pub mod Laws
 pub mod OverlapLaws
+pub mod Ruled
+pub mod Outlines

@@ -6,6 +6,9 @@ ghost use Rattle.native_layout.specs.Shapes.{in_order, measure, flat, pointers_i
 
 use crate::shapes::Shape;
 
+/// How deep a shape may be: a struct and an array in place are one level above the deepest of their parts.
+pub const MOST_NESTING: u32 = 64;
+
 /// The most scalar parts that a struct may have; a shape with more is counted as one with one more.
 pub const MOST_PARTS: u64 = 1 << 20;
 

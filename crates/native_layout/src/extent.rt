@@ -2,8 +2,12 @@
 
 ghost use Rattle.std.specs.Prelude.{◌≡◌, ◌*◌};
 ghost use Rattle.native_layout.specs.Shapes.{unit_width};
+ghost use Rattle.native_layout.specs.Placed.{cap};
 
 use crate::shapes::Enc;
+
+/// The sizes up to which extents are counted: more than any offset that can be written.
+pub const COUNTED: u64 = 1 << 32;
 
 /// How many bytes a shape takes, and where it may lie.
 #[derive(Clone, Copy, Debug, PartialEq, Eq)]
@@ -42,5 +46,15 @@ pub fn inline_text(enc: Enc, count: u32) -> Extent
     Extent {
         size: u64::from(count) * unit,
         align: unit,
+    }
+}
+
+/// An extent as it is counted.
+pub fn counted(e: Extent) -> Extent
+    ensures { result ≡ cap e }
+{
+    Extent {
+        size: e.size.min(COUNTED),
+        align: e.align,
     }
 }

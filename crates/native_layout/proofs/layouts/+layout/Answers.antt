@@ -1,19 +1,31 @@
-use Rattle.std.proofs.Common.{◌≡◌, ◌∙◌, Bool, true, false, not, IsTrue, Result, Some, All, List, map, arith, rules, sym, subst, ap}
+use Rattle.std.proofs.Common.{◌≡◌, ◌≤◌, ◌^◌, ◌∙◌, Bool, true, false, not, IsTrue, Result, Some, All, List, map, arith, rules, sym, subst, ap}
 use Rattle.std.specs.Option.{option_map}
 use Rattle.std.proofs.lemmas.List.{length-map}
 use Rattle.std.proofs.lemmas.List.Elements.{All-push}
 use borrow.Author.Count.{below_more}
 use Rattle.native_layout.specs.declared.extent.Extent.{Extent}
 use Rattle.native_layout.specs.declared.refused.LayoutBad.{LayoutBad}
-use Rattle.native_layout.specs.declared.shapes.Shape.{the_lemmas}
+use Rattle.native_layout.specs.declared.shapes.Shape.{Shape, the_lemmas}
 use Rattle.native_layout.specs.Struct.{Measure, is_align}
 use Rattle.native_layout.specs.Shapes.{in_order, measure, measured, repeated, scalar}
 use Rattle.native_layout.specs.Answer.{told}
-use Rattle.native_layout.specs.Placed.{IsMeasured}
+use Rattle.native_layout.specs.Placed.{AreExtents, IsMeasured}
+use Rattle.native_layout.specs.Ruled.{AnswersRuled}
 use Rattle.native_layout.proofs.Folds.{measure_struct, in_order_struct}
+use Rattle.native_layout.proofs.Ruled.{layout_ruled}
 use Rattle.native_layout.proofs.Positions.{position_at, position_none}
-use Rattle.native_layout.proofs.Structs.{standing_struct, outside_struct, repeated_extent, same_err, measure_at, extents_step, extents_whole}
+use Rattle.native_layout.proofs.Structs.{standing_struct, outside_struct, repeated_extent, all_capped, same_err, measure_at, extents_step, extents_whole}
 use Rattle.native_layout.proofs.layouts.+layout.Goals as goal
+
+pub layout-place-requires-clause-sizes : goal.layout-place-requires-clause-sizes
+layout-place-requires-clause-sizes t c =
+    subst (λ (es : List Extent). All (λ (e : Extent). e.size ≤ 2 ^ 32) es) (sym (c.as_slice-2.ensures.value ∙ c.in_ok-extents.ensures.extents)) (all_capped _)
+
+pub layout-returns-clause-value : goal.layout-returns-clause-value
+layout-returns-clause-value t c =
+    let answers = subst (λ (es : List Extent). AnswersRuled c.rules_of.result c.args.s.now.offsets es c.place.result) c.as_slice-2.ensures.value c.place.ensures.value in
+    let are = subst (λ (shapes : List Shape). AreExtents (map measure shapes) c.in_ok-extents.extents.items) c.as_slice.ensures c.in_ok-extents.ensures in
+    layout_ruled c.args.s.now c.rules_of.result _ c.place.result c.rules_of.ensures are answers
 
 pub extent_of-layout-requires : goal.extent_of-layout-requires
 extent_of-layout-requires t c =
