@@ -68,6 +68,27 @@ pub fn read_meta(alloc: Global, bytes: &[u8], at: u64, size: u32) -> Result<Meta
 }
 
 impl Meta<'_> {
+    /// The bytes of `#Strings` (ECMA-335 II.24.2.3); none where the heap is missing.
+    pub fn string_heap(&self) -> &[u8]
+        ensures { result.now ≡ self.now.strings }
+    {
+        self.heaps.strings
+    }
+
+    /// The bytes of `#US` (ECMA-335 II.24.2.4); none where the heap is missing.
+    pub fn user_string_heap(&self) -> &[u8]
+        ensures { result.now ≡ self.now.user_strings }
+    {
+        self.heaps.user_strings
+    }
+
+    /// The bytes of `#Blob` (ECMA-335 II.24.2.4); none where the heap is missing.
+    pub fn blob_heap(&self) -> &[u8]
+        ensures { result.now ≡ self.now.blobs }
+    {
+        self.heaps.blobs
+    }
+
     /// The number of rows of a table, 0 where there is no such table.
     pub fn rows(&self, table: u8) -> u32
         ensures { result ≡ rows_in self.now table }

@@ -9,3 +9,4 @@ pub mod FromOne
 pub mod Unsound
 pub mod Refused
 pub mod Enclosing
+pub mod RowCopies

@@ -2,11 +2,12 @@
 //! and which methods are imports.
 #![tactic(auto)]
 
+mod copies;
 mod core_types;
 mod edges;
 mod enclosers;
 mod fields;
-mod heaps;
+mod loading;
 mod members;
 mod model;
 mod module;
@@ -17,5 +18,6 @@ mod table_numbers;
 mod type_ids;
 mod values;
 
+pub use loading::load;
 pub use members::{FieldRow, Import, Marshalled, MethodRow, TypeRow};
 pub use model::Types;

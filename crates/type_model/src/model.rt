@@ -1,7 +1,9 @@
 //! The types of an assembly.
 
-ghost use Rattle.std.specs.Prelude.{◌≡◌};
+ghost use Rattle.std.specs.Prelude.{◌≡◌, IfOk};
 ghost use Rattle.std.specs.Option.{option_copied};
+ghost use Rattle.pe_reader.specs.Pe.{headers_of};
+ghost use Rattle.type_model.specs.Module.{module_of};
 ghost use Rattle.type_model.specs.Rows.{type_specs};
 ghost use Rattle.type_model.specs.TypeIds as definition;
 ghost use Rattle.type_model.specs.Types as types;
@@ -9,11 +11,15 @@ ghost use Rattle.type_model.specs.Members.{sig_of};
 
 use crate::core_types::{FIRST_CORE, core_id, core_named, core_type};
 use crate::module::Module;
+use crate::signatures::{field_sigs, method_sigs, spec_sigs};
 use crate::table_numbers::{ROW_LIMIT, TYPE_DEFS, TYPE_REFS, TYPE_SPECS};
 use crate::type_ids::{Leaf, in_brackets, leaf_of};
-use bound_base::Items;
+use bound_base::{Items, NoMemory};
 use managed_value::TypeId;
+use meta_tables::Meta;
+use pe_reader::Pe;
 use sig_reader::{Sig, TypeSig};
+use std::alloc::Global;
 use std::marker::Model;
 
 /// The types of an assembly and their members. It has its own copy of the file, and answers by it.
@@ -48,6 +54,22 @@ const DELEGATE: u8 = 22;
 pub const SAFE_HANDLE: u8 = 30;
 
 impl Types {
+    /// Reads the types of a file, and checks none of them.
+    pub fn read(alloc: Global, bytes: &[u8], pe: &Pe, meta: &Meta<'_>) -> Result<Types, NoMemory>
+        ensures { IfOk result (λ types. types ≡ module_of bytes.now (headers_of pe.now) meta.now) }
+    {
+        let image = Module::of(alloc, bytes, pe, meta)?;
+        let spec_sigs = spec_sigs(alloc, &image)?;
+        let field_sigs = field_sigs(alloc, &image)?;
+        let method_sigs = method_sigs(alloc, &image)?;
+        Ok(Types {
+            image,
+            spec_sigs,
+            field_sigs,
+            method_sigs,
+        })
+    }
+
     /// The copies of the file, its heaps and its rows.
     pub fn image(&self) -> &Module
         ensures { result.now ≡ self.now }

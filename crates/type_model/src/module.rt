@@ -1,17 +1,20 @@
 //! An assembly as its types are read from it: a copy of the file, of its heaps and of its rows.
 
-ghost use Rattle.std.specs.Prelude.{◌≡◌, ◌<◌, ◌≤◌, ◌+◌, ◌-◌, position, IfSome, ◌^◌, ◌==◌, find, slice_index, length};
+ghost use Rattle.std.specs.Prelude.{◌≡◌, ◌<◌, ◌≤◌, ◌+◌, ◌-◌, position, IfSome, ◌^◌, ◌==◌, find, slice_index, length, IfOk};
+ghost use Rattle.pe_reader.specs.Pe.{headers_of};
 ghost use Rattle.std.specs.Option.{option_copied};
 ghost use Rattle.byte_view.specs.Headers.{bytes_at as bytes_of_range, bytes_from};
-ghost use Rattle.type_model.specs.Module.{rows as rows_in, row as row_of, cell as cell_of, first_with as first_row_with, row_count as rows_of, text as text_of, blob as blob_of};
+ghost use Rattle.type_model.specs.Module.{module_of, rows as rows_in, row as row_of, cell as cell_of, first_with as first_row_with, row_count as rows_of, text as text_of, blob as blob_of};
 ghost use Rattle.type_model.specs.Rows.{run_end as end_of_run, owner as owner_of, type_defs};
 ghost use Rattle.type_model.specs.TypeIds.{is_row as is_row_of, type_def_named as first_named, has_name};
 
-use crate::heaps::{entry_at, text_at};
+use crate::copies::{copy, copy_headers, copy_tables};
 use crate::table::{Row, Table};
 use crate::table_numbers::{ROW_LIMIT, TYPE_DEFS};
-use bound_base::{Bytes, Items};
+use bound_base::{Bytes, Items, NoMemory};
+use meta_tables::{Meta, entry_at, text_at};
 use pe_reader::{Pe, at_rva, rest_at};
+use std::alloc::Global;
 use std::marker::Model;
 
 /// An assembly of which the headers and the metadata were read.
@@ -42,6 +45,20 @@ impl Model for Module {
 }
 
 impl Module {
+    /// Copies the file, its heaps and its rows.
+    pub fn of(alloc: Global, bytes: &[u8], pe: &Pe, meta: &Meta<'_>) -> Result<Module, NoMemory>
+        ensures { IfOk result (λ m. m ≡ module_of bytes.now (headers_of pe.now) meta.now) }
+    {
+        Ok(Module {
+            file: copy(alloc, bytes)?,
+            pe: copy_headers(alloc, pe)?,
+            strings: copy(alloc, meta.string_heap())?,
+            user_strings: copy(alloc, meta.user_string_heap())?,
+            blobs: copy(alloc, meta.blob_heap())?,
+            tables: copy_tables(alloc, meta)?,
+        })
+    }
+
     /// The token of the entry point.
     pub fn entry_token(&self) -> u32
         ensures { result ≡ self.now.headers.entry }
