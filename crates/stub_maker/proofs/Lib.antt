@@ -1,4 +1,6 @@
 pub mod Computed
 pub mod Marking
+pub mod Numbered
 pub mod OneRow
 pub mod Orderly
+pub mod Rowless

@@ -17,7 +17,9 @@ use Rattle.stub_maker.specs.declared.refused.Why.TheVariants as why
 use Rattle.stub_maker.specs.Answers.{and_then, map_ok}
 use Rattle.stub_maker.specs.Shapes.{Known}
 use Rattle.stub_maker.specs.Steps.{argument_of}
-use Rattle.stub_maker.specs.Rules.{Imported, Marked, Refused, Signature, each_from, is_plain_signature, is_read_back, marked, may_lend, refused_at, returned, step_by, step_of, stub_by, stub_by_signature, stub_of, stub_of_signature, whole}
+use Rattle.stub_maker.specs.declared.signature.Imported.{Imported}
+use Rattle.stub_maker.specs.declared.signature.Signature.{Signature}
+use Rattle.stub_maker.specs.Rules.{Marked, Refused, each_from, is_plain_signature, is_read_back, marked, may_lend, refused_at, returned, step_by, step_of, stub_by, stub_by_signature, stub_of, stub_of_signature, whole}
 use Rattle.stub_maker.specs.Laws.{IsOrderly, RiseFrom}
 
 -- where what follows an answer is an answer, there was one before

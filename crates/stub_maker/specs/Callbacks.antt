@@ -20,7 +20,8 @@ use Rattle.stub_maker.specs.declared.refused.Why.{Why}
 use Rattle.stub_maker.specs.declared.refused.Why.TheVariants as why
 use Rattle.stub_maker.specs.Answers.{and_then, map_ok}
 use Rattle.stub_maker.specs.Shapes.{Known, Entry}
-use Rattle.stub_maker.specs.Rules.{Marked, Refused, Signature, encoding_in, each_from, entry_in, is_plain_signature, laid, mark_in, refused_at, returned, whole, with_mark}
+use Rattle.stub_maker.specs.declared.signature.Signature.{Signature}
+use Rattle.stub_maker.specs.Rules.{Marked, Refused, encoding_in, each_from, entry_in, is_plain_signature, laid, mark_in, refused_at, returned, whole, with_mark}
 
 -- where a callback finds an array's length: a number of elements, and the number of a parameter that gives further ones
 pub record Counted : Type 0 where

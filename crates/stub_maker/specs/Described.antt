@@ -1,5 +1,5 @@
 -- What the types, the methods and the imports of a module are to the marshalling table.
-use Rattle.std.specs.Prelude.{ℕ, ◌+◌, ◌-◌, Bool, ◌||◌, true, false, not, ◌==◌, ◌&&◌, nat_lt, List, [], ◌∷◌, map, length, Option, Some, None, Result, option_map, option_and_then, unwrap_or, bit_and, if◌then◌else◌, find}
+use Rattle.std.specs.Prelude.{◌≡◌, ℕ, ◌+◌, ◌-◌, min, Bool, ◌||◌, true, false, not, ◌==◌, ◌&&◌, List, [], ◌∷◌, map, length, Option, Some, None, Result, option_map, option_and_then, unwrap_or, bit_and, if◌then◌else◌, find}
 use Rattle.std.specs.List.{enumerate_from}
 use Rattle.managed_value.specs.declared.names.TypeId.{TypeId}
 use Rattle.sig_reader.specs.declared.signature.TypeSig.{TypeSig, out-TypeSig}
@@ -8,9 +8,10 @@ use Rattle.sig_reader.specs.declared.signature.Sig.{Sig, out-Sig}
 use Rattle.type_model.specs.Module.{Module, row_count}
 use Rattle.type_model.specs.Rows
 use Rattle.type_model.specs.Core as core
-use Rattle.type_model.specs.TypeIds.{core_id, def_id, is_core, row_limit, same_type, type_of}
-use Rattle.type_model.specs.Types.{enum_of, field_sig_of, instance_fields, invoke_of, is_below, is_delegate, is_handle, is_value_type}
-use Rattle.type_model.specs.Members.{Import, Marshalled, Method, TypeRow, field, mark_of, marshalled, marshalled_field, method, sig_of, type_row_of}
+use Rattle.type_model.specs.TypeIds.{core_id, def_id, is_core, is_row, row_limit, same_type, type_of}
+use Rattle.type_model.specs.Types.{enum_of, instance_fields, invoke_of, is_below, is_delegate, is_handle, is_value_type}
+use Rattle.type_model.specs.Part.{all_types}
+use Rattle.type_model.specs.Members.{FieldRow, Import, Marshalled, Method, TypeRow, field, mark_of, marshalled, method, sig_of, type_row_of}
 use Rattle.stub_maker.specs.declared.kinds.Kind.{Kind}
 use Rattle.stub_maker.specs.declared.kinds.Kind.TheVariants as kind
 use Rattle.stub_maker.specs.declared.kinds.TypeKind.{TypeKind}
@@ -21,8 +22,12 @@ use Rattle.stub_maker.specs.declared.kinds.Passed.{Passed}
 use Rattle.stub_maker.specs.declared.stub.Stub.{Stub}
 use Rattle.stub_maker.specs.declared.stub.Back.{Back}
 use Rattle.stub_maker.specs.Shapes.{Known}
-use Rattle.stub_maker.specs.Facts.{FieldFacts, StructFacts, TypeFacts, known}
-use Rattle.stub_maker.specs.Rules.{Imported, Refused, Signature, stub_of}
+use Rattle.stub_maker.specs.declared.facts.FieldFacts.{FieldFacts}
+use Rattle.stub_maker.specs.declared.facts.StructFacts.{StructFacts}
+use Rattle.stub_maker.specs.Facts.{TypeFacts, known}
+use Rattle.stub_maker.specs.declared.signature.Imported.{Imported}
+use Rattle.stub_maker.specs.declared.signature.Signature.{Signature}
+use Rattle.stub_maker.specs.Rules.{Refused, stub_of}
 use Rattle.stub_maker.specs.Callbacks.{back_of}
 
 -- the core types that are numbers or characters, or a string, by their places: Boolean, Char and String, the integers, IntPtr and
@@ -62,6 +67,10 @@ core_type_kind m base =
 -- what a type that is no array is, by its `base`
 abbrev pub kind_of : Module → ℕ → Kind
 kind_of m base = if is_core base then core_type_kind m base else file_kind m base
+
+-- what each type of a file is, in the order of their rows
+abbrev pub AreKinds : Module → List Kind → Type 0
+AreKinds m kinds = kinds ≡ map (file_kind m) (all_types m)
 
 -- what a type is
 unfoldable pub type_kind : Module → TypeId → TypeKind
@@ -133,37 +142,50 @@ is_unicode_import flags = bit_and flags 0x6 == 0x4
 abbrev pub is_unicode_type : ℕ → Bool
 is_unicode_type flags = bit_and flags 0x30000 == 0x10000
 
--- an instance field by its row, with the charset of the type that declares it
-abbrev pub field_facts : Module → ℕ → FieldFacts
-field_facts m f = record {
-  kind = unwrap_or (option_map (sig_kind m) (field_sig_of m f)) (One kind.Other);
-  unicode = is_unicode_type (Rows.type_flags m (Rows.owner_of_field m f));
-  descriptor = descriptor_of (marshalled_field m f);
-  offset = option_and_then (λ known. known.offset) (field m f);
+-- a field, with the charset of the type that declares it
+abbrev pub field_by : Module → FieldRow → FieldFacts
+field_by m known = record {
+  kind = unwrap_or (option_map (sig_kind m) known.sig) (One kind.Other);
+  unicode = is_unicode_type (Rows.type_flags m known.owner);
+  descriptor = descriptor_of known.spec;
+  offset = known.offset;
 }
+
+-- what is no field of the file crosses nowhere
+abbrev pub no_field : FieldFacts
+no_field = record { kind = One kind.Other; unicode = false; descriptor = Nothing; offset = None }
+
+-- an instance field, by its row
+abbrev pub field_facts : Module → ℕ → FieldFacts
+field_facts m f = unwrap_or (option_map (field_by m) (field m f)) no_field
 
 -- the layout of a type's flags (II.23.1.15): sequential, or explicit; any other is auto
 abbrev pub layout_bits : ℕ → ℕ
 layout_bits flags = bit_and flags 0x18
 
+-- A packing above 128 bytes is none, so that the greatest that a column of two bytes holds stands for each above it.
 abbrev pub struct_by : Module → ℕ → TypeRow → StructFacts
 struct_by m t known = record {
   ty = t;
-  pack = known.pack;
+  pack = min known.pack 0xFFFF;
   least = known.least;
   explicit = layout_bits known.flags == 0x10;
   fields = map (field_facts m) (instance_fields m (def_id t));
 }
 
--- a value type of the file with a sequential or an explicit layout, by its row
-abbrev pub struct_facts : Module → ℕ → Option StructFacts
+abbrev pub is_laid_by_flags : ℕ → Bool
+is_laid_by_flags flags = layout_bits flags == 0x8 || layout_bits flags == 0x10
+
+-- a type of the file with a sequential or an explicit layout, by its row
+unfoldable pub struct_facts : Module → ℕ → Option StructFacts
 struct_facts m t =
     let known = type_row_of m t in
-    if layout_bits known.flags == 0x8 || layout_bits known.flags == 0x10 then Some (struct_by m t known) else None
+    if is_row m Rows.type_defs t && is_laid_by_flags known.flags then Some (struct_by m t known) else None
 
--- the signature of a delegate type's Invoke, by the type's row
-abbrev pub invoke_signature : Module → ℕ → Option Signature
-invoke_signature m t = option_and_then (signature_of m) (invoke_of m (def_id t))
+-- the signature of the Invoke of a type of the file, by the type's row
+unfoldable pub invoke_signature : Module → ℕ → Option Signature
+invoke_signature m t =
+    if is_row m Rows.type_defs t then option_and_then (signature_of m) (invoke_of m (def_id t)) else None
 
 unfoldable pub facts_of : Module → TypeFacts
 facts_of m = record {

@@ -25,7 +25,8 @@ use Rattle.stub_maker.specs.Answers.{map_ok}
 use Rattle.stub_maker.specs.Shapes.{Known}
 use Rattle.stub_maker.specs.Rules.{returned, step_of}
 use Rattle.stub_maker.specs.Callbacks.{received_of}
-use Rattle.stub_maker.specs.Facts.{FieldFacts, field_shape}
+use Rattle.stub_maker.specs.declared.facts.FieldFacts.{FieldFacts}
+use Rattle.stub_maker.specs.Facts.{field_shape}
 
 -- a struct in sequence of these fields, by its row
 abbrev pub struct_of_fields : ℕ → List Shape → StructShape

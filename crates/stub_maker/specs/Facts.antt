@@ -1,30 +1,15 @@
 -- What the value types and the delegate types of a file are to the marshalling table. One may need others: a struct those of
 -- its fields, a delegate type those of Invoke.
-use Rattle.std.specs.Prelude.{ℕ, zero, suc, Bool, false, List, [], ◌∷◌, map, Option, Some, None, is_ok}
+use Rattle.std.specs.Prelude.{ℕ, zero, suc, ◌+◌, Bool, false, List, [], ◌∷◌, map, Option, Some, None, is_ok}
 use Rattle.std.specs.Option.{option_and_then, option_map}
 use Rattle.native_layout.specs.declared.shapes.Shape.{Shape}
 use Rattle.native_layout.specs.declared.shapes.StructShape.{StructShape}
-use Rattle.stub_maker.specs.declared.kinds.TypeKind.{TypeKind}
-use Rattle.stub_maker.specs.declared.kinds.Descriptor.{Descriptor}
 use Rattle.stub_maker.specs.declared.table.Column.TheVariants as column
 use Rattle.stub_maker.specs.Shapes.{Known, entry_by}
-use Rattle.stub_maker.specs.Rules.{Signature}
+use Rattle.stub_maker.specs.declared.facts.FieldFacts.{FieldFacts}
+use Rattle.stub_maker.specs.declared.facts.StructFacts.{StructFacts}
+use Rattle.stub_maker.specs.declared.signature.Signature.{Signature}
 use Rattle.stub_maker.specs.Callbacks.{back_of}
-
--- an instance field: its type, whether the charset of its type is Unicode, its descriptor, its written offset
-pub record FieldFacts : Type 0 where
-  pub kind : TypeKind
-  pub unicode : Bool
-  pub descriptor : Descriptor
-  pub offset : Option ℕ
-
--- a value type with a sequential or explicit layout: its row, its packing, its least size, its instance fields
-pub record StructFacts : Type 0 where
-  pub ty : ℕ
-  pub pack : ℕ
-  pub least : ℕ
-  pub explicit : Bool
-  pub fields : List FieldFacts
 
 -- the types of a file, by their rows: how many there are; the value types that have a sequential or an explicit layout; the
 -- signature of a delegate type's Invoke, None where it has none in the grammar
@@ -67,6 +52,7 @@ known_after facts (suc n) =
       is_callable = λ t. is_ok (back_of known (facts.invoke_of t));
     }
 
--- what is known of the types: no chain of needs, no type of which comes twice, is longer than there are types
+-- What is known of the types. A row may be needed once as a value type and once as a delegate type, so that a chain of needs in
+-- which none comes twice is at most twice as long as there are rows.
 abbrev pub known : TypeFacts → Known
-known facts = known_after facts facts.count
+known facts = known_after facts (facts.count + facts.count)

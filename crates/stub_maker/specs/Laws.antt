@@ -5,7 +5,9 @@ use Rattle.stub_maker.specs.declared.kinds.Passed.{Passed}
 use Rattle.stub_maker.specs.declared.stub.Stub.{Stub}
 use Rattle.stub_maker.specs.Shapes.{Known}
 use Rattle.stub_maker.specs.Steps.{argument_of}
-use Rattle.stub_maker.specs.Rules.{Imported, Signature, read_back, stub_of}
+use Rattle.stub_maker.specs.declared.signature.Imported.{Imported}
+use Rattle.stub_maker.specs.declared.signature.Signature.{Signature}
+use Rattle.stub_maker.specs.Rules.{read_back, stub_of}
 
 -- numbers that rise, the first from a bound on
 abbrev pub RiseFrom : ℕ → List ℕ → Type 0

@@ -18,6 +18,8 @@ use Rattle.stub_maker.specs.declared.stub.Step.TheVariants as step
 use Rattle.stub_maker.specs.declared.stub.Res.{Res}
 use Rattle.stub_maker.specs.declared.stub.Res.TheVariants as res
 use Rattle.stub_maker.specs.declared.stub.Stub.{Stub}
+use Rattle.stub_maker.specs.declared.signature.Signature.{Signature}
+use Rattle.stub_maker.specs.declared.signature.Imported.{Imported}
 use Rattle.stub_maker.specs.declared.refused.Param.{Param}
 use Rattle.stub_maker.specs.declared.refused.Param.TheVariants.{Arg, Result as TheResult, Whole}
 use Rattle.stub_maker.specs.declared.refused.Why.{Why}
@@ -168,24 +170,6 @@ read_back steps = map argument_of (filter is_read_back steps)
 
 abbrev pub ended : List Step → List ℕ
 ended steps = reverse (map argument_of (filter may_lend steps))
-
--- a method's signature as the table reads it; a void result is None
-pub record Signature : Type 0 where
-  pub vararg : Bool
-  pub generic : ℕ
-  pub params : List Passed
-  pub result : Option Passed
-
--- an import as the table reads it, whatever its names
-pub record Imported : Type 0 where
-  -- ImplFlags has PreserveSig
-  pub preserves_signature : Bool
-  -- its method is static
-  pub is_static : Bool
-  -- None where its bytes are outside the grammar
-  pub signature : Option Signature
-  pub unicode : Bool
-  pub saves_error : Bool
 
 -- a signature that can be passed at all: of a fixed number of parameters, and not generic
 abbrev pub is_plain_signature : Signature → Bool

@@ -19,20 +19,20 @@ pub struct MarkedEntry {
     pub mark: Mark,
 }
 
-fn is_in(flags: u16) -> bool
+fn is_in(flags: u32) -> bool
     ensures { result ≡ spec_is_in flags }
 {
     0 < flags & 1
 }
 
-fn is_out(flags: u16) -> bool
+fn is_out(flags: u32) -> bool
     ensures { result ≡ spec_is_out flags }
 {
     0 < flags & 2
 }
 
 /// What is copied both ways unless a flag says otherwise.
-fn place_mark(flags: u16) -> Mark
+fn place_mark(flags: u32) -> Mark
     ensures { result ≡ spec_place_mark flags }
 {
     if is_out(flags) {
@@ -45,7 +45,7 @@ fn place_mark(flags: u16) -> Mark
 }
 
 /// What is given to native code alone unless a flag says otherwise.
-fn array_mark(flags: u16) -> Mark
+fn array_mark(flags: u32) -> Mark
     ensures { result ≡ spec_array_mark flags }
 {
     if is_out(flags) {
@@ -55,7 +55,7 @@ fn array_mark(flags: u16) -> Mark
     }
 }
 
-fn value_mark(flags: u16) -> Option<Mark>
+fn value_mark(flags: u32) -> Option<Mark>
     ensures { result ≡ spec_value_mark flags }
 {
     if is_out(flags) {
@@ -66,7 +66,7 @@ fn value_mark(flags: u16) -> Option<Mark>
 }
 
 /// The mark of what crosses in a cell, None where its flags aren't allowed there.
-pub fn mark_in(cell: Cell, flags: u16) -> Option<Mark>
+pub fn mark_in(cell: Cell, flags: u32) -> Option<Mark>
     ensures { result ≡ spec_mark_in cell flags }
 {
     match cell {

@@ -51,7 +51,7 @@ pub struct Passed {
     pub reference: bool,
     pub kind: TypeKind,
     /// ParamAttributes (ECMA-335 II.23.1.13).
-    pub flags: u16,
+    pub flags: u32,
     pub descriptor: Descriptor,
 }
 

@@ -3,18 +3,26 @@
 
 mod crossing;
 mod entries;
+mod facts;
 mod forms;
 mod kinds;
+mod kinds_of_types;
 pub mod laws;
 mod printing;
 mod refused;
+mod signature;
+mod signatures;
 mod stub;
 mod table;
 
 pub use crossing::step_of;
 pub use entries::{Contents, KnownTypes};
+pub use facts::{FieldFacts, StructFacts, invoke_signature, struct_facts};
 pub use kinds::{Descriptor, Form, Kind, Passed, TypeKind};
+pub use kinds_of_types::{Kinds, kinds_of, sig_kind, type_kind};
 pub use printing::{print_outside, print_stub};
 pub use refused::{Param, StubBad, Why};
+pub use signature::{Imported, Signature};
+pub use signatures::{imported, passed_at, signature_of};
 pub use stub::{Args, Back, Mark, Marks, Received, ReceivedList, Res, Step, Steps, Stub};
 pub use table::{Cell, Column, Row};
