@@ -1,10 +1,12 @@
-//! Reads cases, one a line of stdin, and prints what the crates of signatures, descriptors, types and
-//! layout answer. The first word of a case says what is called; bytes are in hexadecimal, `-` where
+//! Reads cases, one a line of stdin, and prints what the crates of signatures, descriptors, values,
+//! layouts and graphs answer. The first word of a case says what is called; bytes are in hexadecimal, `-` where
 //! there are none. A line that begins with `#` is printed as it is.
 #![tactic(auto)]
 
 mod descriptors;
+mod graphs;
 mod hexadecimal;
+mod layouts;
 mod signatures;
 mod values;
 
@@ -29,6 +31,8 @@ fn print_case(rt: &HostRuntime, words: &[&str]) -> anyhow::Result<()> {
     if signatures::print(rt, words)?
         || descriptors::print(rt, words)?
         || values::print(rt, words)?
+        || layouts::print(rt, words)?
+        || graphs::print(rt, words)?
     {
         return Ok(());
     }

@@ -1,0 +1,88 @@
+//! Graphs: `cycle` prints the least node that lies on a cycle of the edges FROM:TO, or `none`; `chain N` the same of N edges one
+//! after another, the last node of which leads to itself, and `back N` of these edges from the last to the first; `after STEPS`
+//! prints where each node of a table of next nodes leads in so many steps.
+
+use anyhow::bail;
+use graph_cycles::{Edge, after_steps, first_on_cycle};
+
+pub fn print(rt: &HostRuntime, words: &[&str]) -> anyhow::Result<bool> {
+    let Some((call, words)) = words.split_first() else {
+        return Ok(false);
+    };
+    match *call {
+        "cycle" => print_first(rt, edges_of(rt, words)?.as_slice())?,
+        "chain" => print_first(rt, chain_of(rt, words)?.as_slice())?,
+        "back" => {
+            let mut edges = chain_of(rt, words)?;
+            edges.reverse();
+            print_first(rt, edges.as_slice())?;
+        }
+        "after" => print_after(rt, words)?,
+        _ => return Ok(false),
+    }
+    Ok(true)
+}
+
+fn print_first(rt: &HostRuntime, edges: &[Edge]) -> anyhow::Result<()> {
+    match first_on_cycle(rt.alloc(), edges)? {
+        Some(node) => println!(rt; "{node}")?,
+        None => println!(rt; "none")?,
+    }
+    Ok(())
+}
+
+fn edges_of(rt: &HostRuntime, words: &[&str]) -> anyhow::Result<Vec<Edge>> {
+    let mut edges = Vec::new(rt.alloc());
+    for word in words {
+        let Some((from, to)) = word.split_once(':') else {
+            bail!("an edge that leads nowhere")
+        };
+        edges.push(Edge {
+            from: from.parse()?,
+            to: to.parse()?,
+        })?;
+    }
+    Ok(edges)
+}
+
+/// Edges from each number to the next one up to a last, and from that to itself.
+fn chain_of(rt: &HostRuntime, words: &[&str]) -> anyhow::Result<Vec<Edge>> {
+    let Some(word) = words.first() else {
+        bail!("a chain without its length")
+    };
+    let last: u32 = word.parse()?;
+    let mut edges = Vec::new(rt.alloc());
+    for from in 0..last {
+        edges.push(Edge { from, to: from + 1 })?;
+    }
+    edges.push(Edge {
+        from: last,
+        to: last,
+    })?;
+    Ok(edges)
+}
+
+fn print_after(rt: &HostRuntime, words: &[&str]) -> anyhow::Result<()> {
+    let Some((steps, words)) = words.split_first() else {
+        bail!("steps of no number")
+    };
+    let mut table = Vec::new(rt.alloc());
+    let mut nodes = Vec::new(rt.alloc());
+    let mut node = 0u32;
+    for word in words {
+        table.push(word.parse()?)?;
+        nodes.push(node)?;
+        node = node.saturating_add(1);
+    }
+    print!(rt; "to")?;
+    for end in &after_steps(
+        rt.alloc(),
+        table.as_slice(),
+        nodes.as_slice(),
+        steps.parse()?,
+    )? {
+        print!(rt; " {end}")?;
+    }
+    println!(rt; "")?;
+    Ok(())
+}
