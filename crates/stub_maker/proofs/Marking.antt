@@ -14,8 +14,8 @@ use Rattle.stub_maker.specs.Answers.{and_then, map_ok}
 use Rattle.stub_maker.specs.Extents.{is_laid_out}
 use Rattle.stub_maker.specs.Shapes.{Entry, Known, shape_of_form}
 use Rattle.stub_maker.specs.Entries.{IsEntry, IsFound, IsLaidForm}
-use Rattle.stub_maker.specs.Rules.{Marked, found_entry, laid, mark_in, refusal, step_by, with_mark}
-use Rattle.stub_maker.specs.Crossing.{IsChosen, IsMarked, marked_if, step_in}
+use Rattle.stub_maker.specs.Rules.{Marked, found_entry, laid, mark_in, refusal, returned_by, step_by, with_mark}
+use Rattle.stub_maker.specs.Crossing.{IsChosen, IsLaid, IsMarked, marked_if, returned_in, step_in}
 
 pub chosen_some : (known : Known) (u : Bool) (column : Column) (p : Passed) (f : Found) (o : Option Entry) → IsFound known (Some f) o
     → IsChosen known (Ok f) (found_entry known u column p o)
@@ -71,3 +71,43 @@ step_ok known k m s (Ok n) h e =
     ap (λ (c : Cell). Ok (step_in k c n.mark n.entry.shape)) (sym h.entry.cell)
     ∙ (ap (λ (x : Mark). Ok (step_in k m.found.cell x n.entry.shape)) (sym h.mark)
     ∙ ap (λ (x : Shape). Ok (step_in k m.found.cell m.mark x)) same)
+
+-- a result's layout is found of what is found
+pub laid_ok : (known : Known) (f : Found) (r : Result Entry Why) → IsChosen known (Ok f) r → f.contents.laid_out ≡ true
+    → IsLaid known (Ok f) (and_then (λ e. laid e.shape e) r)
+laid_ok known f (Err w) h l = absurd h
+laid_ok known f (Ok e) h l =
+    let is : is_laid_out e.shape ≡ true = sym (ap (λ (c : Contents). c.laid_out) h.contents_are) ∙ l in
+    let P : Bool → Type 0 = λ x. IsLaid known (Ok f) (cond x (Ok e) (Err why.Layout)) in
+    subst P (sym is) (h, is)
+
+pub laid_not : (known : Known) (f : Found) (r : Result Entry Why) → IsChosen known (Ok f) r → f.contents.laid_out ≡ false
+    → IsLaid known (Err why.Layout) (and_then (λ e. laid e.shape e) r)
+laid_not known f (Err w) h l = absurd h
+laid_not known f (Ok e) h l =
+    let is : is_laid_out e.shape ≡ false = sym (ap (λ (c : Contents). c.laid_out) h.contents_are) ∙ l in
+    let P : Bool → Type 0 = λ x. IsLaid known (Err why.Layout) (cond x (Ok e) (Err why.Layout)) in
+    subst P (sym is) refl
+
+pub laid_err : (known : Known) (w : Why) (r : Result Entry Why) → IsChosen known (Err w) r
+    → IsLaid known (Err w) (and_then (λ e. laid e.shape e) r)
+laid_err known w (Err v) h = h
+laid_err known w (Ok e) h = absurd h
+
+-- the form of an entry that is laid out
+pub laid_out_form : (known : Known) (f : Found) (r : Result Entry Why) → IsLaid known (Ok f) r → IsLaidForm known f.form
+laid_out_form known f (Err v) h = absurd h
+laid_out_form known f (Ok e) h =
+    let P : Option Shape → Type 0 = λ o. IsSomeAnd o (λ s. IsTrue (is_laid_out s)) in subst P (sym h.0.shape) h.1
+
+pub result_err : (known : Known) (w : Why) (r : Result Entry Why) → IsLaid known (Err w) r → map_ok returned_by r ≡ Err w
+result_err known w (Err v) h = ap Err (sym h)
+result_err known w (Ok e) h = absurd h
+
+pub result_ok : (known : Known) (f : Found) (s : Shape) (r : Result Entry Why) → IsLaid known (Ok f) r
+    → shape_of_form known f.form ≡ Some s → map_ok returned_by r ≡ Ok (returned_in f.cell s)
+result_ok known f s (Err v) h e = absurd h
+result_ok known f s (Ok x) h e =
+    let there : Some x.shape ≡ Some s = sym h.0.shape ∙ e in
+    let same : x.shape ≡ s = cc in
+    ap (λ (c : Cell). Ok (returned_in c x.shape)) (sym h.0.cell) ∙ ap (λ (y : Shape). Ok (returned_in f.cell y)) same

@@ -24,6 +24,13 @@ IsChosen known (Err w) (Err v) = w ≡ v
 IsChosen known (Ok f) (Err v) = ⊥
 IsChosen known (Err w) (Ok e) = ⊥
 
+-- an entry that is laid out, or the same reason
+abbrev pub IsLaid : Known → Result Found Why → Result Entry Why → Type 0
+IsLaid known (Ok f) (Ok e) = IsEntry known f e × IsTrue (is_laid_out e.shape)
+IsLaid known (Err w) (Err v) = w ≡ v
+IsLaid known (Ok f) (Err v) = ⊥
+IsLaid known (Err w) (Ok e) = ⊥
+
 -- an entry with its mark, or the same reason
 pub record IsMarkedEntry (known : Known) (m : MarkedEntry) (n : Marked) : Type 0 where
   pub entry : IsEntry known m.found n.entry

@@ -12,6 +12,7 @@ use Rattle.type_model.specs.TypeIds.{core_id, def_id, is_core, is_row, row_limit
 use Rattle.type_model.specs.Types.{enum_of, instance_fields, invoke_of, is_below, is_delegate, is_handle, is_value_type}
 use Rattle.type_model.specs.Part.{all_types}
 use Rattle.type_model.specs.Members.{FieldRow, Import, Marshalled, Method, TypeRow, field, mark_of, marshalled, method, sig_of, type_row_of}
+use Rattle.stub_maker.specs.declared.kinds.Width.TheVariants as width
 use Rattle.stub_maker.specs.declared.kinds.Kind.{Kind}
 use Rattle.stub_maker.specs.declared.kinds.Kind.TheVariants as kind
 use Rattle.stub_maker.specs.declared.kinds.TypeKind.{TypeKind}
@@ -35,8 +36,8 @@ use Rattle.stub_maker.specs.Callbacks.{back_of}
 abbrev pub core_kinds : List (ℕ × Kind)
 core_kinds =
     (core.string_place, kind.Text) ∷ (core.boolean_place, kind.Boolean) ∷ (core.char_place, kind.Character)
-    ∷ (7, kind.Integer 1 true) ∷ (8, kind.Integer 1 false) ∷ (9, kind.Integer 2 true) ∷ (10, kind.Integer 2 false)
-    ∷ (11, kind.Integer 4 true) ∷ (12, kind.Integer 4 false) ∷ (13, kind.Integer 8 true) ∷ (14, kind.Integer 8 false)
+    ∷ (7, kind.Integer width.One true) ∷ (8, kind.Integer width.One false) ∷ (9, kind.Integer width.Two true) ∷ (10, kind.Integer width.Two false)
+    ∷ (11, kind.Integer width.Four true) ∷ (12, kind.Integer width.Four false) ∷ (13, kind.Integer width.Eight true) ∷ (14, kind.Integer width.Eight false)
     ∷ (15, kind.NativeInteger true) ∷ (16, kind.NativeInteger false) ∷ []
 
 -- what a core type is, by its place, where the table has it by itself

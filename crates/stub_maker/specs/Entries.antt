@@ -1,13 +1,17 @@
 -- An entry of the table as it is found: its form, and what the rule asks of its shape, before the shape is made.
 use Rattle.std.specs.Prelude.{◌≡◌, Bool, true, nat_le, if◌then◌else◌, Option, Some, None, IsSomeAnd, IsTrue}
 use Rattle.std.specs.Option.{option_map}
+use Rattle.native_layout.specs.declared.shapes.Shape as shape
 use Rattle.native_layout.specs.declared.shapes.Shape.{Shape}
 use Rattle.native_layout.specs.Shapes.{flat, pointers_in}
 use Rattle.marshal_spec.specs.declared.spec.Spec.TheVariants.{ByValText}
+use Rattle.stub_maker.specs.declared.kinds.Width.TheVariants.{Eight}
 use Rattle.stub_maker.specs.declared.kinds.Kind.{Kind}
 use Rattle.stub_maker.specs.declared.kinds.Kind.TheVariants as kind
 use Rattle.stub_maker.specs.declared.kinds.Form.{Form}
 use Rattle.stub_maker.specs.declared.kinds.Form.TheVariants as form
+use Rattle.stub_maker.specs.declared.kinds.FieldForm.{FieldForm}
+use Rattle.stub_maker.specs.declared.kinds.FieldForm.TheVariants.{One, InlineArray}
 use Rattle.stub_maker.specs.declared.kinds.Descriptor.{Descriptor}
 use Rattle.stub_maker.specs.declared.kinds.Descriptor.TheVariants.{Nothing, Is}
 use Rattle.stub_maker.specs.declared.table.Row.{Row}
@@ -28,6 +32,12 @@ contents shape = record { flat = flat shape; pointers = pointers_in shape; laid_
 abbrev pub contents_of : Known → Form → Option Contents
 contents_of known form = option_map contents (shape_of_form known form)
 
+-- the shape that a field's form stands for, None where its type has no row in the table
+abbrev pub shape_of_field_form : Known → FieldForm → Option Shape
+shape_of_field_form known (One f) = shape_of_form known f
+shape_of_field_form known (InlineArray base element count) =
+    option_map (λ s. shape.InlineArray base s count) (shape_of_form known element)
+
 -- the row of a kind, and its form there, None where the row doesn't take the descriptor
 abbrev pub in_row : Row → Option Form → RowForm
 in_row r f = record { row = r; form = f }
@@ -43,7 +53,7 @@ without_descriptor _ f = None
 
 abbrev pub row_form : Bool → Kind → Descriptor → RowForm
 row_form unicode (kind.Integer width signed) d = in_row row.Integers (option_map (form.Int width) (sign_by width signed d))
-row_form unicode (kind.NativeInteger signed) d = in_row row.Integers (option_map form.Native (sign_by 8 signed d))
+row_form unicode (kind.NativeInteger signed) d = in_row row.Integers (option_map form.Native (sign_by Eight signed d))
 row_form unicode kind.Boolean d = in_row row.Booleans (option_map form.Bool (bool_width_by d))
 row_form unicode kind.Character d = in_row row.Characters (option_map form.Char (char_width_by unicode d))
 row_form unicode kind.Pointer d = in_row row.Pointers (without_descriptor d (form.Native true))

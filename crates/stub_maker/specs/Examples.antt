@@ -5,6 +5,7 @@ use Rattle.native_layout.specs.declared.shapes.Shape as shape
 use Rattle.native_layout.specs.declared.shapes.Shape.{Shape}
 use Rattle.native_layout.specs.declared.shapes.StructShape.{StructShape}
 use Rattle.marshal_spec.specs.declared.spec.Spec.TheVariants.{Plain, ByValText, ByValArray, LpArray}
+use Rattle.stub_maker.specs.declared.kinds.Width.TheVariants.{Four, Eight}
 use Rattle.stub_maker.specs.declared.kinds.Kind.TheVariants as kind
 use Rattle.stub_maker.specs.declared.kinds.TypeKind.{TypeKind}
 use Rattle.stub_maker.specs.declared.kinds.TypeKind.TheVariants.{One, Array}
@@ -66,10 +67,10 @@ abbrev pub plain : TypeKind → Passed
 plain type = record { reference = false; kind = type; flags = 0; descriptor = Nothing }
 
 abbrev pub int : TypeKind
-int = One (kind.Integer 4 true)
+int = One (kind.Integer Four true)
 
 abbrev pub ints : TypeKind
-ints = Array 11 (kind.Integer 4 true)
+ints = Array 11 (kind.Integer Four true)
 
 abbrev pub by_reference : Passed → Passed
 by_reference p = record p { reference = true }
@@ -95,11 +96,11 @@ row passed says = record { passed = passed; says = says }
 abbrev pub import_rows : List (Row Step)
 import_rows =
     row (plain int) (Ok (step.Word 0 (shape.Int 4 true)))
-    ∷ row (as_code 0x07 (plain (One (kind.Integer 4 false)))) (Ok (step.Word 0 (shape.Int 4 true)))
+    ∷ row (as_code 0x07 (plain (One (kind.Integer Four false)))) (Ok (step.Word 0 (shape.Int 4 true)))
     ∷ row (as_code 0x09 (plain int)) (Err WrongDescriptor)
     ∷ row (as_code 0x14 (plain int)) (Err WrongDescriptor)
     ∷ row (record (plain int) { descriptor = Unread }) (Err WrongDescriptor)
-    ∷ row (as_code 0x1F (plain (One (kind.Integer 8 false)))) (Ok (step.Word 0 (shape.Int 8 true)))
+    ∷ row (as_code 0x1F (plain (One (kind.Integer Eight false)))) (Ok (step.Word 0 (shape.Int 8 true)))
     ∷ row (as_code 0x0A (plain (One (kind.NativeInteger true)))) (Ok (step.Word 0 (shape.Native false)))
     ∷ row (flagged 1 (plain int)) (Ok (step.Word 0 (shape.Int 4 true)))
     ∷ row (flagged 2 (plain int)) (Err WrongMark)

@@ -20,7 +20,7 @@ use Rattle.stub_maker.specs.declared.table.Column.{Column}
 use Rattle.stub_maker.specs.declared.table.Column.TheVariants as column
 use Rattle.stub_maker.specs.declared.table.Cell.{Cell}
 use Rattle.stub_maker.specs.Table.{rows, cell_at, admits}
-use Rattle.stub_maker.specs.Forms.{form_by, when}
+use Rattle.stub_maker.specs.Forms.{bytes, form_by, when}
 
 -- what is known of the value types and the delegate types of the file, by their rows: the shape of a value type, none where
 -- it has no row in the table; whether a delegate type has one
@@ -30,10 +30,10 @@ pub record Known : Type 0 where
 
 -- the shape that a form stands for, None where its type has no row in the table
 abbrev pub shape_of_form : Known → Form → Option Shape
-shape_of_form known (form.Int width signed) = Some (shape.Int width signed)
+shape_of_form known (form.Int width signed) = Some (shape.Int (bytes width) signed)
 shape_of_form known (form.Native signed) = Some (shape.Native signed)
-shape_of_form known (form.Bool width) = Some (shape.Bool width)
-shape_of_form known (form.Char width) = Some (shape.Char width)
+shape_of_form known (form.Bool width) = Some (shape.Bool (bytes width))
+shape_of_form known (form.Char width) = Some (shape.Char (bytes width))
 shape_of_form known (form.Text encoding) = Some (shape.Text encoding)
 shape_of_form known (form.InlineText encoding count) = Some (shape.InlineText encoding count)
 shape_of_form known (form.Struct ty) = option_map shape.Struct (known.struct_of ty)

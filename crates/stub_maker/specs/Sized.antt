@@ -1,13 +1,19 @@
 -- What can be printed: each shape of it is in order and laid out, and its size is a number of 64 bits.
-use Rattle.std.specs.Prelude.{◌^◌, ◌<◌, All, IsTrue}
+use Rattle.std.specs.Prelude.{◌≡◌, ℕ, ◌^◌, ◌<◌, All, IsTrue, Some}
 use Rattle.native_layout.specs.declared.shapes.Shape.{Shape}
-use Rattle.native_layout.specs.Shapes.{in_order, measure}
+use Rattle.native_layout.specs.declared.shapes.StructShape.{StructShape}
+use Rattle.native_layout.specs.Shapes.{in_order, measure, struct_in_order}
+use Rattle.stub_maker.specs.Shapes.{Known}
 use Rattle.stub_maker.specs.Extents.{size}
 use Rattle.stub_maker.specs.declared.stub.Step.{Step}
 use Rattle.stub_maker.specs.declared.stub.Step.TheVariants as step
 use Rattle.stub_maker.specs.declared.stub.Res.{Res}
 use Rattle.stub_maker.specs.declared.stub.Res.TheVariants as res
 use Rattle.stub_maker.specs.declared.stub.Stub.{Stub}
+
+-- each value type that is known has fields of widths that their kinds have
+abbrev pub IsInOrder : Known → Type 0
+IsInOrder known = (t : ℕ) (s : StructShape) → known.struct_of t ≡ Some s → IsTrue (struct_in_order s)
 
 pub record IsSized (shape : Shape) : Type 0 where
   pub order : IsTrue (in_order shape)

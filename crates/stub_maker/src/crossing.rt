@@ -1,10 +1,11 @@
 //! How one argument or one result of an import crosses, by the rule over the marshalling table.
 
 ghost use Rattle.std.specs.Prelude.{◌≡◌, ◌≢◌, IfOk, Some, None, Ok, Err, if◌then◌else◌};
-ghost use Rattle.stub_maker.specs.Rules.{array_mark as spec_array_mark, encoding_in as spec_encoding_in, entry_in as spec_entry_in, is_in as spec_is_in, is_out as spec_is_out, mark_in as spec_mark_in, marked_in, place_mark as spec_place_mark, refusal as spec_refusal, returned as spec_returned, step_of as spec_step_of, value_mark as spec_value_mark};
-ghost use Rattle.stub_maker.specs.Crossing.{IsChosen, IsMarked, IsReturned, IsStep, marked_if as spec_marked_if, returned_in, step_in};
+ghost use Rattle.stub_maker.specs.Answers.{and_then, map_ok};
+ghost use Rattle.stub_maker.specs.Rules.{array_mark as spec_array_mark, encoding_in as spec_encoding_in, entry_in as spec_entry_in, is_in as spec_is_in, is_out as spec_is_out, laid, mark_in as spec_mark_in, marked_in, place_mark as spec_place_mark, refusal as spec_refusal, returned as spec_returned, returned_by as spec_returned_by, step_of as spec_step_of, value_mark as spec_value_mark};
+ghost use Rattle.stub_maker.specs.Crossing.{IsChosen, IsLaid, IsMarked, IsReturned, IsStep, marked_if as spec_marked_if, returned_in, step_in};
 
-use crate::entries::{Found, KnownTypes, crosses, entry};
+use crate::entries::{Found, KnownTypes, ShapedTypes, crosses, entry};
 use crate::kinds::Passed;
 use crate::refused::{Param, StubBad, Why};
 use crate::stub::{Mark, Res, Step};
@@ -182,7 +183,7 @@ fn step_by(argument: u32, cell: Cell, mark: Mark, shape: Shape) -> Step
 }
 
 /// The step of an argument, or why it has none.
-pub fn step_of<K: KnownTypes>(
+pub fn step_of<K: ShapedTypes>(
     alloc: Global,
     known: &K,
     unicode: bool,
@@ -204,6 +205,91 @@ pub fn step_of<K: KnownTypes>(
         Ok(marked) => {
             let shape = known.shape(alloc, marked.found.form)?;
             Ok(step_by(argument, marked.found.cell, marked.mark, shape))
+        }
+    }
+}
+
+/// The entry of a result in a column, and its layout.
+fn laid_entry<K: KnownTypes>(
+    known: &K,
+    unicode: bool,
+    column: Column,
+    passed: Passed,
+) -> Result<Found, Why>
+    requires { column ≢ Column.Field }
+    ensures { IsLaid (K.known known.now) result (and_then (λ e. laid e.shape e) (spec_entry_in (K.known known.now) unicode column passed)) }
+{
+    match entry_in(known, unicode, column, passed) {
+        Err(why) => Err(why),
+        Ok(found) => {
+            if found.contents.laid_out {
+                Ok(found)
+            } else {
+                Err(Why::Layout)
+            }
+        }
+    }
+}
+
+/// The result of a cell.
+fn returned_by(cell: Cell, shape: Shape) -> Res
+    ensures { result ≡ returned_in cell shape }
+{
+    match cell {
+        Cell::Text => Res::Text(encoding_in(&shape)),
+        Cell::Value | Cell::PlainValue => Res::Value(shape),
+        _ => Res::Word(shape),
+    }
+}
+
+fn outside_result(why: Why) -> StubBad
+    ensures { result ≡ StubBad.Outside Param.Result why }
+{
+    StubBad::Outside {
+        param: Param::Result,
+        why,
+    }
+}
+
+/// How a result comes back in a column, None being a void one, or why it has no row.
+pub fn returned<K: ShapedTypes>(
+    alloc: Global,
+    known: &K,
+    unicode: bool,
+    column: Column,
+    passed: Option<Passed>,
+) -> Result<Res, StubBad>
+    requires { column ≢ Column.Field }
+    ensures { IsStep Param.Result result (spec_returned (K.known known.now) unicode column passed) }
+{
+    match passed {
+        None => Ok(Res::Void),
+        Some(passed) => {
+            if passed.reference {
+                Err(outside_result(Why::Type0))
+            } else {
+                returned_value(alloc, known, unicode, column, passed)
+            }
+        }
+    }
+}
+
+/// How a value comes back, whether or not it is passed by reference.
+fn returned_value<K: ShapedTypes>(
+    alloc: Global,
+    known: &K,
+    unicode: bool,
+    column: Column,
+    passed: Passed,
+) -> Result<Res, StubBad>
+    requires { column ≢ Column.Field }
+    ensures { IsStep Param.Result result (map_ok spec_returned_by (and_then (λ e. laid e.shape e) (spec_entry_in (K.known known.now) unicode column passed))) }
+{
+    match laid_entry(known, unicode, column, passed) {
+        Err(why) => Err(outside_result(why)),
+        Ok(found) => {
+            let shape = known.shape(alloc, found.form)?;
+            Ok(returned_by(found.cell, shape))
         }
     }
 }

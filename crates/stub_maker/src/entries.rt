@@ -6,9 +6,10 @@ ghost use Rattle.stub_maker.specs.Shapes.{Known, behind_pointer, crosses as spec
 ghost use Rattle.stub_maker.specs.Table.{admits as spec_admits, cell_at as table_cell, rows};
 ghost use Rattle.stub_maker.specs.Forms.{is_plain as is_plain_code, when};
 ghost use Rattle.stub_maker.specs.Entries.{IsFound, IsLaidForm, contents_of, pointed, row_form as spec_row_form, text_form as spec_text_form, without_descriptor as spec_without};
+ghost use Rattle.stub_maker.specs.Sized.{IsInOrder};
 
 use crate::forms::{bool_width_by, char_width_by, encoding_by, encoding_of, is_plain, sign_by};
-use crate::kinds::{Descriptor, Form, Kind, TypeKind};
+use crate::kinds::{Descriptor, Form, Kind, TypeKind, Width};
 use crate::table::{Cell, Column, Row, cell_at};
 use bound_base::NoMemory;
 use marshal_spec::Spec;
@@ -49,10 +50,15 @@ pub trait KnownTypes {
     fn contents(&self, form: Form) -> Option<Contents>
         ensures { result ≡ contents_of (known self.now) form };
 
+    ghost in_order: { (x : Self) → IsInOrder (known x) };
+}
+
+/// What is known of the types of a file, so that their shapes can be made.
+pub trait ShapedTypes: KnownTypes {
     /// The shape of a form that has one and is laid out.
     fn shape(&self, alloc: Global, form: Form) -> Result<Shape, NoMemory>
-        requires { IsLaidForm (known self.now) form }
-        ensures { IfOk result (λ shape. shape_of_form (known self.now) form ≡ Some shape) };
+        requires { IsLaidForm (Self.known self.now) form }
+        ensures { IfOk result (λ shape. shape_of_form (Self.known self.now) form ≡ Some shape) };
 }
 
 /// Whether a cell lets a type cross whose shape is flat, or whose shape holds pointers.
@@ -117,7 +123,7 @@ fn row_form(unicode: bool, kind: Kind, descriptor: Descriptor) -> RowForm
         ),
         Kind::NativeInteger(signed) => (
             Row::Integers,
-            sign_by(8, signed, descriptor).map(|sign| Form::Native(sign)),
+            sign_by(Width::Eight, signed, descriptor).map(|sign| Form::Native(sign)),
         ),
         Kind::Boolean => (
             Row::Booleans,
@@ -177,7 +183,7 @@ pub fn one_entry<K: KnownTypes>(
     entry_if(known, cell_at(row_form.row, column), row_form.form)
 }
 
-fn described(code: Option<u8>) -> Descriptor
+pub fn described(code: Option<u8>) -> Descriptor
     ensures { result ≡ spec_described code }
 {
     match code {

@@ -3,22 +3,22 @@
 ghost use Rattle.std.specs.Prelude.{◌≡◌};
 ghost use Rattle.stub_maker.specs.Forms.{sign_by as spec_sign, bool_width_by as spec_bool_width, char_width_by as spec_char_width, encoding_by as spec_encoding, encoding_of as charset_encoding, by_code as value_by_code, is_plain as is_plain_code};
 
-use crate::kinds::Descriptor;
+use crate::kinds::{Descriptor, Width};
 use marshal_spec::Spec;
 use native_layout::Enc;
 
-/// The native types that are integers: the code, the width in bytes and the sign of each.
-const NATIVE_INTEGERS: [(u8, (u8, bool)); 10] = [
-    (0x03, (1, true)),
-    (0x04, (1, false)),
-    (0x05, (2, true)),
-    (0x06, (2, false)),
-    (0x07, (4, true)),
-    (0x08, (4, false)),
-    (0x09, (8, true)),
-    (0x0A, (8, false)),
-    (0x1F, (8, true)),
-    (0x20, (8, false)),
+/// The native types that are integers: the code, the width and the sign of each.
+const NATIVE_INTEGERS: [(u8, (Width, bool)); 10] = [
+    (0x03, (Width::One, true)),
+    (0x04, (Width::One, false)),
+    (0x05, (Width::Two, true)),
+    (0x06, (Width::Two, false)),
+    (0x07, (Width::Four, true)),
+    (0x08, (Width::Four, false)),
+    (0x09, (Width::Eight, true)),
+    (0x0A, (Width::Eight, false)),
+    (0x1F, (Width::Eight, true)),
+    (0x20, (Width::Eight, false)),
 ];
 
 /// The value of a native type's code, None where the list doesn't have it.
@@ -32,13 +32,13 @@ fn by_code<T: Copy>(values: &[(u8, T)], code: u8) -> Option<T>
 }
 
 /// The sign of an integer of this width under a descriptor: its own, or that of a native integer of its width.
-pub fn sign_by(width: u8, signed: bool, descriptor: Descriptor) -> Option<bool>
+pub fn sign_by(width: Width, signed: bool, descriptor: Descriptor) -> Option<bool>
     ensures { result ≡ spec_sign width signed descriptor }
 {
     match descriptor {
         Descriptor::Nothing => Some(signed),
         Descriptor::Is(Spec::Plain(code)) => match by_code(&NATIVE_INTEGERS, code) {
-            Some((native_width, native_sign)) if native_width == width => Some(native_sign),
+            Some((native_width, native_sign)) if native_width.bytes() == width.bytes() => Some(native_sign),
             _ => None,
         },
         _ => None,
@@ -46,24 +46,24 @@ pub fn sign_by(width: u8, signed: bool, descriptor: Descriptor) -> Option<bool>
 }
 
 /// The width of a bool.
-pub fn bool_width_by(descriptor: Descriptor) -> Option<u8>
+pub fn bool_width_by(descriptor: Descriptor) -> Option<Width>
     ensures { result ≡ spec_bool_width descriptor }
 {
     match descriptor {
-        Descriptor::Nothing => Some(4),
-        Descriptor::Is(Spec::Plain(code)) => by_code(&[(0x02, 4), (0x03, 1), (0x04, 1)], code),
+        Descriptor::Nothing => Some(Width::Four),
+        Descriptor::Is(Spec::Plain(code)) => by_code(&[(0x02, Width::Four), (0x03, Width::One), (0x04, Width::One)], code),
         _ => None,
     }
 }
 
 /// The width of a character.
-pub fn char_width_by(unicode: bool, descriptor: Descriptor) -> Option<u8>
+pub fn char_width_by(unicode: bool, descriptor: Descriptor) -> Option<Width>
     ensures { result ≡ spec_char_width unicode descriptor }
 {
     match descriptor {
-        Descriptor::Nothing => Some(if unicode { 2 } else { 1 }),
+        Descriptor::Nothing => Some(if unicode { Width::Two } else { Width::One }),
         Descriptor::Is(Spec::Plain(code)) => by_code(
-            &[(0x03, 1), (0x04, 1), (0x05, 2), (0x06, 2)],
+            &[(0x03, Width::One), (0x04, Width::One), (0x05, Width::Two), (0x06, Width::Two)],
             code,
         ),
         _ => None,

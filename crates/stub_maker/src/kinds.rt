@@ -1,13 +1,38 @@
 //! What a type, a parameter and a descriptor are to the marshalling table.
 
+ghost use Rattle.std.specs.Prelude.{◌≡◌};
+ghost use Rattle.stub_maker.specs.Forms.{bytes as bytes_of};
+
 use marshal_spec::Spec;
 use native_layout::Enc;
+
+/// How many bytes an integer, a bool or a character has.
+#[derive(Clone, Copy, Debug, PartialEq, Eq)]
+pub enum Width {
+    One,
+    Two,
+    Four,
+    Eight,
+}
+
+impl Width {
+    pub fn bytes(self) -> u8
+        ensures { result ≡ bytes_of self }
+    {
+        match self {
+            Width::One => 1,
+            Width::Two => 2,
+            Width::Four => 4,
+            Width::Eight => 8,
+        }
+    }
+}
 
 /// What a type is to the marshalling table, arrays apart.
 #[derive(Clone, Copy, Debug, PartialEq, Eq)]
 pub enum Kind {
-    /// An integer, or an enum of one: its width in bytes, and whether it is signed.
-    Integer(u8, bool),
+    /// An integer, or an enum of one: its width, and whether it is signed.
+    Integer(Width, bool),
     /// nint or nuint, or an enum of one, and whether it is signed.
     NativeInteger(bool),
     Boolean,
@@ -58,14 +83,12 @@ pub struct Passed {
 /// What a type that is no array looks like in native memory, its value types and delegate types by their rows.
 #[derive(Clone, Copy, Debug, PartialEq, Eq)]
 pub enum Form {
-    /// An integer: its width in bytes, and whether it is signed.
-    Int(u8, bool),
+    /// An integer: its width, and whether it is signed.
+    Int(Width, bool),
     /// An integer of 8 bytes whose type is nint, nuint, a pointer or an enum of these, and whether it is signed.
     Native(bool),
-    /// A bool, by its width in bytes.
-    Bool(u8),
-    /// A character, by its width in bytes.
-    Char(u8),
+    Bool(Width),
+    Char(Width),
     /// A pointer to a text.
     Text(Enc),
     /// A text in place, and the units that it has, its end included.
@@ -74,4 +97,18 @@ pub enum Form {
     Struct(u32),
     /// A pointer to code that calls a delegate of the type with this row.
     Thunk(u32),
+}
+
+/// What a field looks like in native memory.
+#[derive(Clone, Copy, Debug, PartialEq, Eq)]
+pub enum FieldForm {
+    One(Form),
+    /// An array in place.
+    InlineArray {
+        /// The `base` of the element's type.
+        base: u32,
+        element: Form,
+        /// How many elements it has, at least one.
+        count: u32,
+    },
 }

@@ -5,7 +5,7 @@ ghost use Rattle.sig_reader.specs.declared.signature.TypeSig.{out-TypeSig};
 ghost use Rattle.type_model.specs.TypeIds.{row_limit, type_of};
 ghost use Rattle.stub_maker.specs.Described.{AreKinds, array_kind as spec_array_kind, core_kind as spec_core_kind, core_type_kind as spec_core_type_kind, enum_kind as spec_enum_kind, file_kind as spec_file_kind, kind_of as spec_kind_of, sig_kind as spec_sig_kind, type_kind as spec_type_kind, type_kind_by};
 
-use crate::kinds::{Kind, TypeKind};
+use crate::kinds::{Kind, TypeKind, Width};
 use bound_base::{Items, NoMemory};
 use managed_value::TypeId;
 use sig_reader::TypeSig;
@@ -31,14 +31,14 @@ const CORE_KINDS: [(u32, Kind); 13] = [
     (4, Kind::Text),
     (5, Kind::Boolean),
     (6, Kind::Character),
-    (7, Kind::Integer(1, true)),
-    (8, Kind::Integer(1, false)),
-    (9, Kind::Integer(2, true)),
-    (10, Kind::Integer(2, false)),
-    (11, Kind::Integer(4, true)),
-    (12, Kind::Integer(4, false)),
-    (13, Kind::Integer(8, true)),
-    (14, Kind::Integer(8, false)),
+    (7, Kind::Integer(Width::One, true)),
+    (8, Kind::Integer(Width::One, false)),
+    (9, Kind::Integer(Width::Two, true)),
+    (10, Kind::Integer(Width::Two, false)),
+    (11, Kind::Integer(Width::Four, true)),
+    (12, Kind::Integer(Width::Four, false)),
+    (13, Kind::Integer(Width::Eight, true)),
+    (14, Kind::Integer(Width::Eight, false)),
     (15, Kind::NativeInteger(true)),
     (16, Kind::NativeInteger(false)),
 ];

@@ -4,6 +4,7 @@
 mod crossing;
 mod entries;
 mod facts;
+mod fields;
 mod forms;
 mod kinds;
 mod kinds_of_types;
@@ -16,9 +17,10 @@ mod stub;
 mod table;
 
 pub use crossing::step_of;
-pub use entries::{Contents, KnownTypes};
+pub use entries::{Contents, KnownTypes, ShapedTypes};
 pub use facts::{FieldFacts, StructFacts, invoke_signature, struct_facts};
-pub use kinds::{Descriptor, Form, Kind, Passed, TypeKind};
+pub use fields::field_form;
+pub use kinds::{Descriptor, FieldForm, Form, Kind, Passed, TypeKind, Width};
 pub use kinds_of_types::{Kinds, kinds_of, sig_kind, type_kind};
 pub use printing::{print_outside, print_stub};
 pub use refused::{Param, StubBad, Why};
