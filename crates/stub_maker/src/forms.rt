@@ -38,7 +38,9 @@ pub fn sign_by(width: Width, signed: bool, descriptor: Descriptor) -> Option<boo
     match descriptor {
         Descriptor::Nothing => Some(signed),
         Descriptor::Is(Spec::Plain(code)) => match by_code(&NATIVE_INTEGERS, code) {
-            Some((native_width, native_sign)) if native_width.bytes() == width.bytes() => Some(native_sign),
+            Some((native_width, native_sign)) if native_width.bytes() == width.bytes() => Some(
+                native_sign,
+            ),
             _ => None,
         },
         _ => None,
@@ -51,7 +53,10 @@ pub fn bool_width_by(descriptor: Descriptor) -> Option<Width>
 {
     match descriptor {
         Descriptor::Nothing => Some(Width::Four),
-        Descriptor::Is(Spec::Plain(code)) => by_code(&[(0x02, Width::Four), (0x03, Width::One), (0x04, Width::One)], code),
+        Descriptor::Is(Spec::Plain(code)) => by_code(
+            &[(0x02, Width::Four), (0x03, Width::One), (0x04, Width::One)],
+            code,
+        ),
         _ => None,
     }
 }
@@ -63,7 +68,12 @@ pub fn char_width_by(unicode: bool, descriptor: Descriptor) -> Option<Width>
     match descriptor {
         Descriptor::Nothing => Some(if unicode { Width::Two } else { Width::One }),
         Descriptor::Is(Spec::Plain(code)) => by_code(
-            &[(0x03, Width::One), (0x04, Width::One), (0x05, Width::Two), (0x06, Width::Two)],
+            &[
+                (0x03, Width::One),
+                (0x04, Width::One),
+                (0x05, Width::Two),
+                (0x06, Width::Two),
+            ],
             code,
         ),
         _ => None,
