@@ -28,7 +28,12 @@ use Rattle.stub_maker.specs.declared.facts.StructFacts.{StructFacts}
 use Rattle.stub_maker.specs.Facts.{TypeFacts, known}
 use Rattle.stub_maker.specs.declared.signature.Imported.{Imported}
 use Rattle.stub_maker.specs.declared.signature.Signature.{Signature}
-use Rattle.stub_maker.specs.Rules.{Refused, stub_of}
+use Rattle.stub_maker.specs.declared.refused.Param.TheVariants.{Whole}
+use Rattle.stub_maker.specs.declared.refused.Why.TheVariants as why
+use Rattle.stub_maker.specs.declared.table.Column.TheVariants as column
+use Rattle.native_layout.specs.declared.shapes.Shape.{Shape}
+use Rattle.stub_maker.specs.Answers.{and_then, map_ok}
+use Rattle.stub_maker.specs.Rules.{Refused, entry_in, laid, refused_at, stub_of, whole}
 use Rattle.stub_maker.specs.Callbacks.{back_of}
 
 -- the core types that are numbers or characters, or a string, by their places: Boolean, Char and String, the integers, IntPtr and
@@ -177,16 +182,29 @@ struct_by m t known = record {
 abbrev pub is_laid_by_flags : ℕ → Bool
 is_laid_by_flags flags = layout_bits flags == 0x8 || layout_bits flags == 0x10
 
--- a type of the file with a sequential or an explicit layout, by its row
+-- a value type of the file that is no enum
+abbrev pub is_struct : Kind → Bool
+is_struct (kind.Struct t) = true
+is_struct _ = false
+
+abbrev pub is_delegate_kind : Kind → Bool
+is_delegate_kind (kind.Delegate t) = true
+is_delegate_kind _ = false
+
+-- a value type of the file with a sequential or an explicit layout, by its row
 unfoldable pub struct_facts : Module → ℕ → Option StructFacts
 struct_facts m t =
     let known = type_row_of m t in
-    if is_row m Rows.type_defs t && is_laid_by_flags known.flags then Some (struct_by m t known) else None
+    if is_row m Rows.type_defs t && is_struct (kind_of m t) && is_laid_by_flags known.flags
+    then Some (struct_by m t known)
+    else None
 
--- the signature of the Invoke of a type of the file, by the type's row
+-- the signature of the Invoke of a delegate type of the file, by the type's row
 unfoldable pub invoke_signature : Module → ℕ → Option Signature
 invoke_signature m t =
-    if is_row m Rows.type_defs t then option_and_then (signature_of m) (invoke_of m (def_id t)) else None
+    if is_row m Rows.type_defs t && is_delegate_kind (kind_of m t)
+    then option_and_then (signature_of m) (invoke_of m (def_id t))
+    else None
 
 unfoldable pub facts_of : Module → TypeFacts
 facts_of m = record {
@@ -208,10 +226,26 @@ imported_by m i of = record {
   saves_error = not (bit_and i.flags 0x40 == 0);
 }
 
--- the stub of an import, or what of it has no row in the table and why
-unfoldable pub stub_of_import : Module → Import → Option (Result Stub Refused)
-stub_of_import m i = option_map (λ of. stub_of (known_of m) (imported_by m i of)) (method m i.method)
+abbrev pub stub_if : Known → Option Imported → Result Stub Refused
+stub_if known None = whole why.Type0
+stub_if known (Some i) = stub_of known i
+
+-- The stub of an import, or what of it has no row in the table and why. A method that isn't there is one without a signature.
+unfoldable pub stub_of_import : Module → Import → Result Stub Refused
+stub_of_import m i = stub_if (known_of m) (option_map (imported_by m i) (method m i.method))
 
 -- how a callback by a delegate type of the file crosses, or what of it has no row in the table and why
 unfoldable pub back_of_delegate : Module → TypeId → Result Back Refused
 back_of_delegate m id = back_of (known_of m) (invoke_signature m id.base)
+
+-- a type without a descriptor
+abbrev pub bare : TypeKind → Passed
+bare k = record { reference = false; kind = k; flags = 0; descriptor = Nothing }
+
+-- the shape that a field has of a type without a descriptor, under the charset Ansi, or why it has none
+abbrev pub bare_shape : Known → TypeKind → Result Shape Refused
+bare_shape known k =
+    refused_at Whole (map_ok (λ e. e.shape) (and_then (λ e. laid e.shape e) (entry_in known false column.Field (bare k))))
+
+unfoldable pub shape_of_type : Module → TypeId → Result Shape Refused
+shape_of_type m id = bare_shape (known_of m) (type_kind m id)

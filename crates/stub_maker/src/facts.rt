@@ -4,10 +4,10 @@ ghost use Rattle.std.specs.Prelude.{◌≡◌, IfOk, map};
 ghost use Rattle.type_model.specs.MemberViews.{view_field, view_type_row};
 ghost use Rattle.type_model.specs.TypeIds.{def_id};
 ghost use Rattle.type_model.specs.Types.{instance_fields};
-ghost use Rattle.stub_maker.specs.Described.{AreKinds, field_by as spec_field_by, field_facts as spec_field_facts, invoke_signature as spec_invoke_signature, is_laid_by_flags as spec_is_laid_by_flags, is_unicode_type as spec_is_unicode_type, struct_by as spec_struct_by, struct_facts as spec_struct_facts};
+ghost use Rattle.stub_maker.specs.Described.{AreKinds, field_by as spec_field_by, field_facts as spec_field_facts, invoke_signature as spec_invoke_signature, is_delegate_kind, is_laid_by_flags as spec_is_laid_by_flags, is_struct as spec_is_struct, is_unicode_type as spec_is_unicode_type, struct_by as spec_struct_by, struct_facts as spec_struct_facts};
 
 use crate::kinds::{Descriptor, Kind, TypeKind};
-use crate::kinds_of_types::{Kinds, TYPE_DEFS, sig_kind};
+use crate::kinds_of_types::{Kinds, TYPE_DEFS, kind_of, sig_kind};
 use crate::signature::Signature;
 use crate::signatures::{descriptor_of, signature_of};
 use bound_base::{Items, NoMemory};
@@ -41,7 +41,7 @@ pub struct StructFacts {
     pub fields: Items<FieldFacts>,
 }
 
-/// What a type of the file is where it has a sequential or an explicit layout, by its row; None for any other type.
+/// A value type of the file with a sequential or an explicit layout, by its row; None for any other type.
 #[tactic(auto, unfolding(crate::specs::Described::struct_facts, type_model::specs::Members::type_row))]
 pub fn struct_facts(
     alloc: Global,
@@ -52,7 +52,7 @@ pub fn struct_facts(
     requires { AreKinds types.now kinds.now }
     ensures { IfOk result (λ facts. facts ≡ spec_struct_facts types.now t) }
 {
-    if !types.image().is_row(TYPE_DEFS, t) {
+    if !types.image().is_row(TYPE_DEFS, t) || !is_struct(kind_of(types, kinds, t)) {
         return Ok(None);
     }
     match types.type_row(t) {
@@ -60,6 +60,15 @@ pub fn struct_facts(
             Ok(Some(struct_by(alloc, types, kinds, t, &known)?))
         }
         _ => Ok(None),
+    }
+}
+
+fn is_struct(kind: Kind) -> bool
+    ensures { result ≡ spec_is_struct kind }
+{
+    match kind {
+        Kind::Struct(_) => true,
+        _ => false,
     }
 }
 
@@ -145,7 +154,7 @@ fn is_laid_by_flags(flags: u32) -> bool
     flags & 0x18 == 0x8 || flags & 0x18 == 0x10
 }
 
-/// The signature of the Invoke of a type of the file, by the type's row; None where there is none in the grammar.
+/// The signature of the Invoke of a delegate type of the file, by the type's row; None where there is none in the grammar.
 #[tactic(auto, unfolding(crate::specs::Described::invoke_signature))]
 pub fn invoke_signature(
     alloc: Global,
@@ -156,11 +165,20 @@ pub fn invoke_signature(
     requires { AreKinds types.now kinds.now }
     ensures { IfOk result (λ signature. signature ≡ spec_invoke_signature types.now t) }
 {
-    if !types.image().is_row(TYPE_DEFS, t) {
+    if !types.image().is_row(TYPE_DEFS, t) || !is_delegate(kind_of(types, kinds, t)) {
         return Ok(None);
     }
     match types.invoke_of(TypeId { base: t, arrays: 0 }) {
         Some(method) => signature_of(alloc, types, kinds, method),
         None => Ok(None),
+    }
+}
+
+fn is_delegate(kind: Kind) -> bool
+    ensures { result ≡ is_delegate_kind kind }
+{
+    match kind {
+        Kind::Delegate(_) => true,
+        _ => false,
     }
 }

@@ -115,7 +115,7 @@ fn core_type_kind(types: &Types, base: u32) -> Kind
 }
 
 /// What a type that is no array is, by its `base`.
-fn kind_of(types: &Types, kinds: &Kinds, base: u32) -> Kind
+pub fn kind_of(types: &Types, kinds: &Kinds, base: u32) -> Kind
     requires { AreKinds types.now kinds.now }
     ensures { result ≡ spec_kind_of types.now base }
 {

@@ -1,6 +1,7 @@
 //! How each import's arguments and result cross to native code and back: its stub, or why it has none.
 #![tactic(auto)]
 
+mod bare_shapes;
 mod crossing;
 mod entries;
 mod facts;
@@ -9,6 +10,7 @@ mod forms;
 mod kinds;
 mod kinds_of_types;
 pub mod laws;
+mod needs;
 mod printing;
 mod refused;
 mod signature;
@@ -16,12 +18,14 @@ mod signatures;
 mod stub;
 mod table;
 
+pub use bare_shapes::bare_shape;
 pub use crossing::step_of;
 pub use entries::{Contents, KnownTypes, ShapedTypes};
 pub use facts::{FieldFacts, StructFacts, invoke_signature, struct_facts};
 pub use fields::field_form;
 pub use kinds::{Descriptor, FieldForm, Form, Kind, Passed, TypeKind, Width};
 pub use kinds_of_types::{Kinds, kinds_of, sig_kind, type_kind};
+pub use needs::{Need, needs_in_order};
 pub use printing::{print_outside, print_stub};
 pub use refused::{Param, StubBad, Why};
 pub use signature::{Imported, Signature};
