@@ -8,6 +8,9 @@ use Rattle.stub_maker.specs.Steps.{argument_of}
 use Rattle.stub_maker.specs.declared.signature.Imported.{Imported}
 use Rattle.stub_maker.specs.declared.signature.Signature.{Signature}
 use Rattle.stub_maker.specs.Rules.{read_back, stub_of}
+use Rattle.type_model.specs.Module.{Module}
+use Rattle.stub_maker.specs.Described.{known_of}
+use Rattle.stub_maker.specs.Sized.{IsInOrder}
 
 -- numbers that rise, the first from a bound on
 abbrev pub RiseFrom : ℕ → List ℕ → Type 0
@@ -26,3 +29,7 @@ abbrev pub StubsAreOrderly : Type 0
 StubsAreOrderly =
     (known : Known) (i : Imported) (s : Signature) (stub : Stub) → i.signature ≡ Some s → stub_of known i ≡ Ok stub
     → IsOrderly s.params stub
+
+-- What is known of a file's types has only widths that their kinds have.
+abbrev pub KnownIsInOrder : Type 0
+KnownIsInOrder = (m : Module) → IsInOrder (known_of m)

@@ -7,10 +7,11 @@ pub mod Examples
 pub mod Extents
 pub mod Facts
 pub mod Forms
+pub mod InOrder
 pub mod Laws
 pub mod Printed
 pub mod Rules
-pub mod Sized
 pub mod Shapes
+pub mod Sized
 pub mod Steps
 pub mod Table

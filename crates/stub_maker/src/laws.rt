@@ -1,7 +1,7 @@
 //! Laws of stubs: each function's contract is one.
 
 ghost use Rattle.stub_maker.specs.Examples.{RowsAreAnswered};
-ghost use Rattle.stub_maker.specs.Laws.{StubsAreOrderly};
+ghost use Rattle.stub_maker.specs.Laws.{KnownIsInOrder, StubsAreOrderly};
 
 /// A stub has one step for each parameter, in order. Places and copies that native code may have written are read back, from
 /// left to right, and what ends does so from right to left.
@@ -13,4 +13,9 @@ pub fn stubs_are_orderly()
 /// of each row of the marshalling table but that of value types.
 pub fn rows_are_answered()
     ensures { RowsAreAnswered }
+{}
+
+/// Each width in a shape of a file's value type is one that its kind has.
+pub fn known_is_in_order()
+    ensures { KnownIsInOrder }
 {}
