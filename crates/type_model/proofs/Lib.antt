@@ -10,3 +10,5 @@ pub mod Unsound
 pub mod Refused
 pub mod Enclosing
 pub mod RowCopies
+pub mod Pooling
+pub mod SharedSigs

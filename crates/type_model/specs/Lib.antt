@@ -13,3 +13,4 @@ pub mod Part
 pub mod Sound
 pub mod EntryPoint
 pub mod Subtypes
+pub mod Pool

@@ -12,6 +12,7 @@ mod members;
 mod model;
 mod module;
 mod part;
+mod pool;
 mod signatures;
 mod table;
 mod table_numbers;

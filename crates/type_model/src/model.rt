@@ -11,10 +11,11 @@ ghost use Rattle.type_model.specs.Members.{sig_of};
 
 use crate::core_types::{FIRST_CORE, core_id, core_named, core_type};
 use crate::module::Module;
+use crate::pool::Pool;
 use crate::signatures::{field_sigs, method_sigs, spec_sigs};
 use crate::table_numbers::{ROW_LIMIT, TYPE_DEFS, TYPE_REFS, TYPE_SPECS};
 use crate::type_ids::{Leaf, in_brackets, leaf_of};
-use bound_base::{Items, NoMemory};
+use bound_base::NoMemory;
 use managed_value::TypeId;
 use meta_tables::Meta;
 use pe_reader::Pe;
@@ -26,9 +27,9 @@ use std::marker::Model;
 #[derive(Drop)]
 pub struct Types {
     image: Module,
-    spec_sigs: Items<Option<TypeSig>>,
-    field_sigs: Items<Option<TypeSig>>,
-    method_sigs: Items<Option<Sig>>,
+    spec_sigs: Pool<TypeSig>,
+    field_sigs: Pool<TypeSig>,
+    method_sigs: Pool<Sig>,
 }
 
 impl Model for Types {
@@ -85,7 +86,7 @@ impl Types {
         if s == 0 {
             return None;
         }
-        self.spec_sigs.get(s as usize - 1)?.as_ref()
+        self.spec_sigs.get(s as usize - 1)
     }
 
     /// The signature of a row of Field; None outside the grammar.
@@ -96,7 +97,7 @@ impl Types {
         if f == 0 {
             return None;
         }
-        self.field_sigs.get(f as usize - 1)?.as_ref()
+        self.field_sigs.get(f as usize - 1)
     }
 
     /// The signature of a row of MethodDef; None outside the grammar.
@@ -107,7 +108,7 @@ impl Types {
         if n == 0 {
             return None;
         }
-        self.method_sigs.get(n as usize - 1)?.as_ref()
+        self.method_sigs.get(n as usize - 1)
     }
 
     /// What a row of TypeRef names.

@@ -192,6 +192,11 @@ impl Module {
         entry_at(self.blobs.as_slice(), at as usize).unwrap_or(&[])
     }
 
+    /// How many bytes `#Blob` has.
+    pub fn blob_heap_size(&self) -> usize {
+        self.blobs.len()
+    }
+
     /// The bytes from an address to the end of its section's raw data.
     pub fn rest_at(&self, rva: u32) -> Option<&[u8]>
         ensures { option_copied result ≡ bytes_from self.now.bytes self.now.headers.sections rva }

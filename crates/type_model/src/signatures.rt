@@ -9,42 +9,46 @@ ghost use Rattle.type_model.specs.Types.{field_sig_in};
 ghost use Rattle.type_model.specs.Members.{sig_in};
 
 use crate::module::Module;
+use crate::pool::{Pool, share_offsets};
 use crate::table_numbers::{FIELDS, METHOD_DEFS, TYPE_SPECS};
 use bound_base::{Items, NoMemory};
 use sig_reader::{Sig, SigBad, TypeSig, read_field_sig, read_method_sig, read_type_spec};
 use std::alloc::Global;
 
 /// The types in the blobs of TypeSpec.
-pub fn spec_sigs(alloc: Global, image: &Module) -> Result<Items<Option<TypeSig>>, NoMemory>
+pub fn spec_sigs(alloc: Global, image: &Module) -> Result<Pool<TypeSig>, NoMemory>
     ensures { IfOk result (λ sigs. sigs ≡ map (spec_sig_in image.now) (rows image.now type_specs)) }
 {
-    let mut sigs = Items::new(alloc);
-    for row in image.rows(TYPE_SPECS) {
-        sigs.push(type_in(alloc, image.blob(row[0]))?)?;
+    let shared = share_offsets(alloc, image.rows(TYPE_SPECS), 0, image.blob_heap_size())?;
+    let mut values = Items::new(alloc);
+    for at in shared.offsets.as_slice() {
+        values.push(type_in(alloc, image.blob(*at))?)?;
     }
-    Ok(sigs)
+    Ok(Pool::of(shared.places, values))
 }
 
 /// The signatures of fields.
-pub fn field_sigs(alloc: Global, image: &Module) -> Result<Items<Option<TypeSig>>, NoMemory>
+pub fn field_sigs(alloc: Global, image: &Module) -> Result<Pool<TypeSig>, NoMemory>
     ensures { IfOk result (λ sigs. sigs ≡ map (field_sig_in image.now) (rows image.now fields)) }
 {
-    let mut sigs = Items::new(alloc);
-    for row in image.rows(FIELDS) {
-        sigs.push(field_type_in(alloc, image.blob(row[2]))?)?;
+    let shared = share_offsets(alloc, image.rows(FIELDS), 2, image.blob_heap_size())?;
+    let mut values = Items::new(alloc);
+    for at in shared.offsets.as_slice() {
+        values.push(field_type_in(alloc, image.blob(*at))?)?;
     }
-    Ok(sigs)
+    Ok(Pool::of(shared.places, values))
 }
 
 /// The signatures of methods.
-pub fn method_sigs(alloc: Global, image: &Module) -> Result<Items<Option<Sig>>, NoMemory>
+pub fn method_sigs(alloc: Global, image: &Module) -> Result<Pool<Sig>, NoMemory>
     ensures { IfOk result (λ sigs. sigs ≡ map (sig_in image.now) (rows image.now method_defs)) }
 {
-    let mut sigs = Items::new(alloc);
-    for row in image.rows(METHOD_DEFS) {
-        sigs.push(method_in(alloc, image.blob(row[4]))?)?;
+    let shared = share_offsets(alloc, image.rows(METHOD_DEFS), 4, image.blob_heap_size())?;
+    let mut values = Items::new(alloc);
+    for at in shared.offsets.as_slice() {
+        values.push(method_in(alloc, image.blob(*at))?)?;
     }
-    Ok(sigs)
+    Ok(Pool::of(shared.places, values))
 }
 
 /// The type in a blob, None where it is no type.

@@ -1,6 +1,7 @@
-use Rattle.std.proofs.Common.{◌≡◌, map, take}
-use Rattle.type_model.specs.Types.{field_sig_in}
+use Rattle.std.proofs.Common.{◌≡◌, ℕ, map, take}
+use Rattle.sig_reader.specs.Reading.{field_sig}
+use Rattle.type_model.specs.Module.{blob}
 use Rattle.type_model.proofs.signatures.field_sigs.Given as goal
 
-abbrev pub invariant-loop-row : goal.invariant-loop-row
-invariant-loop-row l = l.sigs ≡ map (field_sig_in l.image) (take l.row-index l.row-items)
+abbrev pub invariant-loop-at : goal.invariant-loop-at
+invariant-loop-at l = l.values ≡ map (λ (at : ℕ). field_sig (blob l.image at)) (take l.at-index l.at-items)
