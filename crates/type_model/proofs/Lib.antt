@@ -12,3 +12,9 @@ pub mod Enclosing
 pub mod RowCopies
 pub mod Pooling
 pub mod SharedSigs
+pub mod WaysOn
+pub mod TypeOrder
+pub mod Finding
+pub mod Told
+pub mod RowNames
+pub mod SpecWays

@@ -8,6 +8,12 @@ range_end a zero = ap (λ (k : ℕ). k ∷ []) (omega arith)
 range_end a (suc n) =
     ap (λ (l : List ℕ). a ∷ l) (range_end (a + 1) n ∙ ap (λ (k : ℕ). range_with_len (a + 1) n ++ k ∷ []) (omega arith))
 
+pub one_more_row : (n : ℕ) → range_with_len 1 (n + 1) ≡ range_with_len 1 n ++ (n + 1) ∷ []
+one_more_row n =
+    let next : n + 1 ≡ suc n = omega arith in
+    let last : 1 + n ≡ n + 1 = omega arith in
+    ap (range_with_len 1) next ∙ range_end 1 n ∙ ap (λ (k : ℕ). range_with_len 1 n ++ k ∷ []) last
+
 append_nil : {A : Type 0} (xs : List A) → xs ++ [] ≡ xs
 append_nil [] = refl
 append_nil (x ∷ xs) = ap (λ l. x ∷ l) (append_nil xs)

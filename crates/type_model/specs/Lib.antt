@@ -14,3 +14,6 @@ pub mod Sound
 pub mod EntryPoint
 pub mod Subtypes
 pub mod Pool
+pub mod Names
+pub mod Ways
+pub mod ByName

@@ -17,6 +17,17 @@ pub struct CoreType {
     pub interfaces: &'static [u8],
 }
 
+/// The places of core types that are spoken of one by one.
+pub const VALUE_TYPE: u8 = 1;
+
+pub const ENUM: u8 = 2;
+
+pub const ARRAY: u8 = 3;
+
+pub const DELEGATE: u8 = 22;
+
+pub const SAFE_HANDLE: u8 = 30;
+
 /// Core types are numbered from here on, after the rows of TypeDef that a token may name.
 pub const FIRST_CORE: u32 = 0x0100_0000;
 

@@ -2,11 +2,9 @@
 
 ghost use Rattle.std.specs.Prelude.{◌≡◌, ◌<◌, ◌≤◌, ◌+◌, ◌^◌, ◌++◌, IfOk, OnOk, IfSome};
 ghost use Rattle.std.specs.List.{flat_map};
-ghost use Rattle.type_model.specs.BaseTable.{TellsValues};
 ghost use Rattle.type_model.specs.Module.{row_count};
 ghost use Rattle.type_model.specs.Rows.{type_defs};
-ghost use Rattle.type_model.specs.TypeIds.{def_id};
-ghost use Rattle.type_model.specs.Types.{is_value_type, own_fields};
+ghost use Rattle.type_model.specs.Types.{own_fields};
 ghost use Rattle.type_model.specs.Sound.{held_if_own, TellsEnclosers};
 ghost use Rattle.type_model.specs.Part.{edge, def_of as file_type_of, base_def, encloser_of, value_def as held_value, field_value, held_by, extends_edges as edges_of_extends, nesting_edges as edges_of_nesting, inside_edges as edges_inside};
 
@@ -50,47 +48,32 @@ fn enclosing(types: &Types, enclosers: &[u32], t: u32) -> Option<u32>
     }
 }
 
-/// Whether a type of the file is a value type, if this is known of the rows.
-fn is_value(types: &Types, values: &[bool], t: u32) -> bool
-    requires { TellsValues types.now values.now }
-    ensures { result ≡ is_value_type types.now (def_id t) }
-{
-    if 1 <= t && t <= types.image().row_count(TYPE_DEFS) && t < FIRST_CORE {
-        values.get(t as usize).copied().unwrap_or(false)
-    } else {
-        types.is_value_type(TypeId { base: t, arrays: 0 })
-    }
-}
-
 /// The value type of the file that a type is.
-fn value_def(types: &Types, values: &[bool], id: TypeId) -> Option<u32>
-    requires { TellsValues types.now values.now }
+fn value_def(types: &Types, id: TypeId) -> Option<u32>
     ensures { result ≡ held_value types.now id }
 {
     let t = def_of(id)?;
-    is_value(types, values, t).then_some(t)
+    types.is_value_type(id).then_some(t)
 }
 
 /// The value type of the file that an instance field holds.
-fn held_in(types: &Types, values: &[bool], f: u32) -> Option<u32>
-    requires { TellsValues types.now values.now }
+fn held_in(types: &Types, f: u32) -> Option<u32>
     ensures { result ≡ held_if_own types.now f }
 {
     if types.image().cell(FIELDS, u64::from(f), 0) & 0x10 != 0 {
         return None;
     }
-    value_of_field(types, values, f)
+    value_of_field(types, f)
 }
 
 /// The value type of the file that a field is of.
 #[tactic(auto, unfolding(crate::specs::Types::field_type))]
-fn value_of_field(types: &Types, values: &[bool], f: u32) -> Option<u32>
-    requires { TellsValues types.now values.now }
+fn value_of_field(types: &Types, f: u32) -> Option<u32>
     ensures { result ≡ field_value types.now f }
 {
     let sig = types.field_sig(f)?;
     let id = types.type_of(sig)?;
-    value_def(types, values, id)
+    value_def(types, id)
 }
 
 /// Adds an edge to something, where it is there.
@@ -132,24 +115,22 @@ pub fn nesting_edges(alloc: Global, types: &Types) -> Result<Vec<Edge>, AllocErr
 
 /// The edges by which values of types of a file hold values.
 #[tactic(auto, unfolding(crate::specs::Part::inside_edges))]
-pub fn inside_edges(alloc: Global, types: &Types, values: &[bool]) -> Result<Vec<Edge>, AllocError>
+pub fn inside_edges(alloc: Global, types: &Types) -> Result<Vec<Edge>, AllocError>
     requires few { row_count types.now type_defs < 2 ^ 31 }
-    requires values { TellsValues types.now values.now }
     ensures { IfOk result (λ edges. edges.items ≡ edges_inside types.now) }
 {
     let mut edges = Vec::new(alloc);
     let count = types.image().row_count(TYPE_DEFS);
     for t in 1..count + 1 {
-        hold(&mut edges, types, values, t)?;
+        hold(&mut edges, types, t)?;
     }
     Ok(edges)
 }
 
 /// Adds the edges of one type.
-fn hold(edges: &mut Vec<Edge>, types: &Types, values: &[bool], t: u32) -> Result<(), AllocError>
+fn hold(edges: &mut Vec<Edge>, types: &Types, t: u32) -> Result<(), AllocError>
     requires few { row_count types.now type_defs < 2 ^ 31 }
     requires one { t ≤ row_count types.now type_defs }
-    requires values { TellsValues types.now values.now }
     ensures { OnOk result (edges.new.items ≡ edges.old.items ++ held_by types.now (row_count types.now type_defs) t) }
 {
     let count = types.image().row_count(TYPE_DEFS);
@@ -160,25 +141,18 @@ fn hold(edges: &mut Vec<Edge>, types: &Types, values: &[bool], t: u32) -> Result
         Some(base) => Some(count + base),
     };
     push_edge(edges, from, base)?;
-    hold_fields(edges, types, values, t, from)
+    hold_fields(edges, types, t, from)
 }
 
 /// Adds the edges to the value types of a type's instance fields.
-fn hold_fields(
-    edges: &mut Vec<Edge>,
-    types: &Types,
-    values: &[bool],
-    t: u32,
-    from: u32,
-) -> Result<(), AllocError>
-    requires { TellsValues types.now values.now }
+fn hold_fields(edges: &mut Vec<Edge>, types: &Types, t: u32, from: u32) -> Result<(), AllocError>
     ensures { OnOk result (edges.new.items ≡ edges.old.items
         ++ flat_map (λ f. edge from (field_value types.now f)) (own_fields types.now t)) }
 {
     let first = u64::from(types.image().cell(TYPE_DEFS, u64::from(t), 4));
     let end = types.image().run_end(TYPE_DEFS, t, 4, FIELDS);
     for f in first..end {
-        push_edge(edges, from, held_in(types, values, f as u32))?;
+        push_edge(edges, from, held_in(types, f as u32))?;
     }
     Ok(())
 }

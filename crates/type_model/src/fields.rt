@@ -4,8 +4,8 @@ ghost use Rattle.std.specs.Prelude.{◌≡◌, ◌+◌, ◌-◌, ◌≤◌, ◌<
 ghost use Rattle.type_model.specs.Rows.{method_name, first_method, end_of_methods};
 ghost use Rattle.type_model.specs.Types as definition;
 
-use crate::core_types::{FIRST_CORE, core_id};
-use crate::model::{ENUM, SAFE_HANDLE, Types};
+use crate::core_types::{FIRST_CORE, SAFE_HANDLE};
+use crate::model::Types;
 use crate::table_numbers::{FIELDS, METHOD_DEFS, TYPE_DEFS};
 use bound_base::{Items, NoMemory};
 use managed_value::TypeId;
@@ -100,7 +100,7 @@ impl Types {
     pub fn enum_of(&self, alloc: Global, id: TypeId) -> Result<Option<u32>, NoMemory>
         ensures { IfOk result (λ integer. integer ≡ definition.enum_of self.now id) }
     {
-        if FIRST_CORE <= id.base || !self.is_below(id, core_id(ENUM)) {
+        if FIRST_CORE <= id.base || !self.bases().is_below_enum(id) {
             return Ok(None);
         }
         let fields = self.instance_fields(alloc, id)?;

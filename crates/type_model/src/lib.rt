@@ -2,6 +2,9 @@
 //! and which methods are imports.
 #![tactic(auto)]
 
+mod bases;
+mod below;
+mod by_name;
 mod copies;
 mod core_types;
 mod edges;
@@ -11,13 +14,16 @@ mod loading;
 mod members;
 mod model;
 mod module;
+mod names;
 mod part;
 mod pool;
+mod ref_names;
 mod signatures;
+mod spec_names;
 mod table;
 mod table_numbers;
 mod type_ids;
-mod values;
+mod ways;
 
 pub use loading::load;
 pub use members::{FieldRow, Import, Marshalled, MethodRow, TypeRow};

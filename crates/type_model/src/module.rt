@@ -1,12 +1,12 @@
 //! An assembly as its types are read from it: a copy of the file, of its heaps and of its rows.
 
-ghost use Rattle.std.specs.Prelude.{◌≡◌, ◌<◌, ◌≤◌, ◌+◌, ◌-◌, position, IfSome, ◌^◌, ◌==◌, find, slice_index, length, IfOk};
+ghost use Rattle.std.specs.Prelude.{◌≡◌, ◌<◌, ◌≤◌, ◌+◌, ◌-◌, ◌^◌, ◌==◌, find, slice_index, length, IfOk};
 ghost use Rattle.pe_reader.specs.Pe.{headers_of};
 ghost use Rattle.std.specs.Option.{option_copied};
 ghost use Rattle.byte_view.specs.Headers.{bytes_at as bytes_of_range, bytes_from};
 ghost use Rattle.type_model.specs.Module.{module_of, rows as rows_in, row as row_of, cell as cell_of, first_with as first_row_with, row_count as rows_of, text as text_of, blob as blob_of};
-ghost use Rattle.type_model.specs.Rows.{run_end as end_of_run, owner as owner_of, type_defs};
-ghost use Rattle.type_model.specs.TypeIds.{is_row as is_row_of, type_def_named as first_named, has_name};
+ghost use Rattle.type_model.specs.Rows.{run_end as end_of_run, owner as owner_of};
+ghost use Rattle.type_model.specs.TypeIds.{is_row as is_row_of};
 
 use crate::copies::{copy, copy_headers, copy_tables};
 use crate::table::{Row, Table};
@@ -129,25 +129,6 @@ impl Module {
         ensures { result ≡ is_row_of self.now table n }
     {
         1 <= n && n <= self.row_count(table) && n < ROW_LIMIT
-    }
-
-    /// The row of the first TypeDef that has a namespace and a name.
-    #[tactic(auto, unfolding(crate::specs::TypeIds::type_def_named))]
-    pub fn type_def_named(&self, namespace: &[u8], name: &[u8]) -> Option<u32>
-        ensures { result ≡ first_named self.now namespace.now name.now }
-    {
-        let place = self.place_named(namespace, name)?;
-        Some(place as u32 + 1)
-    }
-
-    /// The place of that row, counted from 0.
-    fn place_named(&self, namespace: &[u8], name: &[u8]) -> Option<usize>
-        ensures place { result ≡ position (has_name self.now namespace.now name.now)
-            (rows_in self.now type_defs) }
-        ensures few { IfSome result (λ place. place + 1 < 2 ^ 32) }
-    {
-        self.rows(TYPE_DEFS).iter().position(|row| self.text(row[1]) == name
-            && self.text(row[2]) == namespace)
     }
 
     /// Where a run of rows ends that a row of TypeDef or MethodDef begins: at the next row's, or after the last row.

@@ -15,7 +15,6 @@ ghost use Rattle.type_model.specs.Sound.{FailsFirst, IsFirstUnsound, AllSound};
 use crate::edges::{extends_edges, inside_edges, nesting_edges};
 use crate::model::Types;
 use crate::table_numbers::{FIELDS, TYPE_DEFS};
-use crate::values::{extends_list, value_types};
 use bound_base::{BadImage, Part};
 use graph_cycles::{Edge, first_on_cycle};
 use meta_tables::Meta;
@@ -108,9 +107,7 @@ fn first_inside_itself(alloc: Global, types: &Types) -> Result<u32, AllocError>
     ensures { IfOk result (λ at. FailsFirst (λ t. is_on_cycle (edges_inside types.now) t)
         (row_count types.now type_defs) at) }
 {
-    let extends = extends_list(alloc, types)?;
-    let values = value_types(alloc, types, &extends)?;
-    let edges = inside_edges(alloc, types, &values)?;
+    let edges = inside_edges(alloc, types)?;
     first_on(alloc, &edges)
 }
 

@@ -1,7 +1,7 @@
 //! What stands within the brackets of a type of a signature.
 
 ghost use Rattle.std.specs.Prelude.{◌≡◌};
-ghost use Rattle.type_model.specs.TypeIds.{leaf, in_brackets as bracketed_in};
+ghost use Rattle.type_model.specs.TypeIds.{leaf, in_brackets as bracketed_in, def_id as id_of_def, same_type as are_same};
 
 use crate::core_types::{core_id, element_type};
 use managed_value::TypeId;
@@ -18,6 +18,19 @@ pub enum Leaf {
 
 /// The place of UIntPtr among the core types.
 const UINT_PTR: u8 = 16;
+
+/// A type of the file, by its row of TypeDef.
+pub fn def_id(t: u32) -> TypeId
+    ensures { result ≡ id_of_def t }
+{
+    TypeId { base: t, arrays: 0 }
+}
+
+pub fn same_type(a: TypeId, b: TypeId) -> bool
+    ensures { result ≡ are_same a b }
+{
+    a.base == b.base && a.arrays == b.arrays
+}
 
 /// What stands within the brackets of a type of a signature, and how many these are; None where it names no type.
 #[tactic(auto, unfolding(crate::specs::TypeIds::leaf))]

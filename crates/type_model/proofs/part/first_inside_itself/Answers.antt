@@ -7,9 +7,9 @@ use Rattle.type_model.proofs.Unsound.{first_among}
 use Rattle.type_model.proofs.part.first_inside_itself.Goals as goal
 
 pub first_on-requires : goal.first_on-requires
-first_on-requires c = λ to. rw (c.deref-3.ensures.value, c.in_ok-edges.ensures) (inside_from_one c.args.types.now to)
+first_on-requires c = λ to. rw (c.deref.ensures.value, c.in_ok-edges.ensures) (inside_from_one c.args.types.now to)
 
 pub returns : goal.returns
 returns c =
-    first_among c.first_on.result c.deref-3.result.now (inside_edges c.args.types.now) (row_count c.args.types.now type_defs)
-    (c.deref-3.ensures.value ∙ c.in_ok-edges.ensures) c.requires c.first_on.ensures
+    first_among c.first_on.result c.deref.result.now (inside_edges c.args.types.now) (row_count c.args.types.now type_defs)
+    (c.deref.ensures.value ∙ c.in_ok-edges.ensures) c.requires c.first_on.ensures

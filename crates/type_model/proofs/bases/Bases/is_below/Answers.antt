@@ -3,7 +3,7 @@ use Rattle.std.specs.List.{list_any}
 use Rattle.type_model.specs.TypeIds.{same_type}
 use Rattle.type_model.specs.Types.{bases_within}
 use Rattle.type_model.proofs.Walks.{below_end}
-use Rattle.type_model.proofs.model.Types.is_below.Goals as goal
+use Rattle.type_model.proofs.bases.Bases.is_below.Goals as goal
 
 pub returns : goal.returns
 returns c =

@@ -1,4 +1,0 @@
-use Rattle.type_model.proofs.model.Types.+named_within.Given as goal
-
-abbrev pub decreases-named_within : goal.decreases-named_within
-decreases-named_within l = l.left
