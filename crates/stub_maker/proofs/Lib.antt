@@ -5,4 +5,5 @@ pub mod Numbered
 pub mod OneRow
 pub mod Orderly
 pub mod Rowless
+pub mod Sizes
 pub mod Stepping

@@ -99,7 +99,7 @@ chosen_rise p k (suc n) (s ∷ steps) e =
       | false ↦ rise_less k (k + 1) (map argument_of (filter p steps)) (omega arith) more
     ]
 
-if_ok : (b : Bool) (r : Result Stub Refused) (w : Why) (stub : Stub) → cond b r (whole w) ≡ Ok stub → r ≡ Ok stub
+pub if_ok : (b : Bool) (r : Result Stub Refused) (w : Why) (stub : Stub) → cond b r (whole w) ≡ Ok stub → r ≡ Ok stub
 if_ok true r w stub e = e
 if_ok false r w stub e = absurd (let h : ⊥ = cc in h)
 

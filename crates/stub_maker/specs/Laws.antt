@@ -10,7 +10,7 @@ use Rattle.stub_maker.specs.declared.signature.Signature.{Signature}
 use Rattle.stub_maker.specs.Rules.{read_back, stub_of}
 use Rattle.type_model.specs.Module.{Module}
 use Rattle.stub_maker.specs.Described.{known_of}
-use Rattle.stub_maker.specs.Sized.{IsInOrder}
+use Rattle.stub_maker.specs.Sized.{IsInOrder, IsSizedStub}
 
 -- numbers that rise, the first from a bound on
 abbrev pub RiseFrom : ℕ → List ℕ → Type 0
@@ -33,3 +33,7 @@ StubsAreOrderly =
 -- What is known of a file's types has only widths that their kinds have.
 abbrev pub KnownIsInOrder : Type 0
 KnownIsInOrder = (m : Module) → IsInOrder (known_of m)
+
+-- a stub's shapes are in order and laid out, and have sizes of 64 bits
+abbrev pub StubsAreSized : Type 0
+StubsAreSized = (known : Known) (i : Imported) (stub : Stub) → IsInOrder known → stub_of known i ≡ Ok stub → IsSizedStub stub

@@ -1,7 +1,7 @@
 //! Laws of stubs: each function's contract is one.
 
 ghost use Rattle.stub_maker.specs.Examples.{RowsAreAnswered};
-ghost use Rattle.stub_maker.specs.Laws.{KnownIsInOrder, StubsAreOrderly};
+ghost use Rattle.stub_maker.specs.Laws.{KnownIsInOrder, StubsAreOrderly, StubsAreSized};
 
 /// A stub has one step for each parameter, in order. Places and copies that native code may have written are read back, from
 /// left to right, and what ends does so from right to left.
@@ -18,4 +18,9 @@ pub fn rows_are_answered()
 /// Each width in a shape of a file's value type is one that its kind has.
 pub fn known_is_in_order()
     ensures { KnownIsInOrder }
+{}
+
+/// A stub can be printed: each shape of it is in order and laid out, and its size has 64 bits.
+pub fn stubs_are_sized()
+    ensures { StubsAreSized }
 {}
