@@ -12,7 +12,6 @@ import reference_stubs as reference
 HERE = os.path.dirname(os.path.realpath(__file__))
 ROOT = os.path.dirname(HERE)
 SHOWN = 20
-COMMANDS = ("imports", "stubs")
 
 
 def program():
@@ -31,11 +30,12 @@ def lacks_stubs(plhost):
     return ask(plhost, "stubs", f"{ROOT}/crates/plhost/data/app.dll")[0] == 201
 
 
-def skip_without_stubs(plhost):
-    """Ends the check where plhost does not have the line `stubs` yet."""
+def commands(plhost):
+    """The commands that plhost is asked: `imports`, and `stubs` where it has that line."""
     if lacks_stubs(plhost):
-        print("skipped: this plhost doesn't have the line `stubs`")
-        sys.exit()
+        print("this plhost doesn't have the line `stubs`: asks `imports` alone")
+        return ("imports",)
+    return ("imports", "stubs")
 
 
 def first_difference(got, wanted):
@@ -53,9 +53,9 @@ def difference(got, wanted):
     return first_difference(got[1], wanted[1])
 
 
-def compare(plhost, path, wanted):
+def compare(plhost, commands, path, wanted):
     """Returns what differs between plhost's answers for a file and those that are wanted, '' where nothing does."""
-    for command in COMMANDS:
+    for command in commands:
         said = difference(ask(plhost, command, path), wanted[command])
         if said:
             return f"{command}: {said}"

@@ -4,8 +4,8 @@ use Rattle.std.specs.Prelude.{nat_lt, if◌then◌else◌}
 use Rattle.std.proofs.lemmas.Bool.{cond_both}
 use Rattle.bound_base.specs.Outside.{Files}
 use Rattle.byte_view.specs.Reading.{Broken}
-use Rattle.byte_view.specs.Metadata.{Metadata}
-use Rattle.byte_view.specs.Assembly.{assembly}
+use Rattle.type_model.specs.Module.{Module}
+use Rattle.type_model.specs.Part.{assembly_types}
 use Rattle.host_run.specs.declared.command.Command.{Command}
 use Rattle.host_run.specs.declared.command.Command.TheVariants.{Imports, Stubs, Native, Run, Drill}
 use Rattle.host_run.specs.Grammar.{command}
@@ -28,7 +28,7 @@ file-own answer_of name own None = record { read = omega arith; put = omega arit
 file-own answer_of name own (Some bytes) =
     cond_both (nat_lt file_limit (length bytes)) (too_large name) (answer_of bytes) (λ a. IsNoFailure a.status) (λ _. record { read = omega arith; put = omega arith; memory = omega arith }) (λ _. own bytes)
 
-imports-own : (read : Result Metadata Broken) → IsNoFailure (imports_of read).status
+imports-own : (read : Result Module Broken) → IsNoFailure (imports_of read).status
 imports-own (Ok m) = record { read = omega arith; put = omega arith; memory = omega arith }
 imports-own (Err broken) = record { read = omega arith; put = omega arith; memory = omega arith }
 
@@ -43,7 +43,7 @@ of-answer a b e own = let P : Answer → Type 0 = λ x. IsNoFailure x.status in 
 answer-own : (c : Option Command) (words : List (List ℕ)) (files : Files) (a : Answer) → IsAnswer c words files a → IsNoFailure a.status
 answer-own None words files a e = of-answer a usage e usage-own
 answer-own (Some (Imports file)) words files a e =
-    of-answer a (imports_answer file (files file)) e (file-own (λ bytes. imports_of (assembly bytes)) file (λ bytes. imports-own (assembly bytes)) (files file))
+    of-answer a (imports_answer file (files file)) e (file-own (λ bytes. imports_of (assembly_types bytes)) file (λ bytes. imports-own (assembly_types bytes)) (files file))
 answer-own (Some (Stubs file)) words files a e = of-answer a usage e usage-own
 answer-own (Some (Native lib symbol numbers)) words files a e =
     of-answer a (native_answer lib symbol numbers (files lib)) e (file-own (native_of lib symbol numbers) lib (native-own lib symbol numbers) (files lib))

@@ -1,7 +1,7 @@
 -- `imports` of a file that was read.
 use Rattle.std.proofs.Common.{◌≡◌, refl, sym, ap, Option, Some, None, Result, subst}
 use Rattle.byte_view.specs.Reading.{Broken, RefusedBy}
-use Rattle.byte_view.specs.Metadata.{Metadata}
+use Rattle.type_model.specs.Module.{Module}
 use Rattle.host_run.specs.declared.settled.Settled.{Settled}
 use Rattle.host_run.specs.declared.settled.Halt.{Halt}
 use Rattle.host_run.specs.Settled.{SettlesBroken}
@@ -15,7 +15,7 @@ pub finishes-same : (a b : Answer) (result : Result Settled Halt) (out : SinkCha
 finishes-same a b result out e h = let P : Answer → Type 0 = λ x. Finishes x result out in subst P (sym e) h
 
 -- a broken image is refused
-pub finishes-broken : (says : Option Broken) (read : Result Metadata Broken) (result : Result Settled Halt) (out : SinkChange) → RefusedBy says read → SettlesBroken bad_image says result → out.new ≡ out.old → out.after ≡ out.before
+pub finishes-broken : (says : Option Broken) (read : Result Module Broken) (result : Result Settled Halt) (out : SinkChange) → RefusedBy says read → SettlesBroken bad_image says result → out.new ≡ out.old → out.after ≡ out.before
     → Finishes (imports_of read) result out
 finishes-broken (Some broken) read result out refuses settles new count =
     finishes-same (bad_image broken.0 broken.1) (imports_of read) result out (ap imports_of refuses) (finishes-settled (bad_image broken.0 broken.1) result out refl settles new count)

@@ -7,6 +7,7 @@ pub mod ItemsOfLines
 pub mod Puts
 pub mod Fronts
 pub mod Images
+pub mod ImportRows
 pub mod Answers
 pub mod Outcomes
 pub mod Contents
@@ -16,3 +17,4 @@ pub mod StartMemory
 pub mod NativeStatuses
 pub mod NativeCalls
 pub mod ReadBack
+pub mod TypesRead

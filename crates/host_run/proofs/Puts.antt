@@ -6,7 +6,6 @@ use Rattle.std.proofs.lemmas.List.Concat.{flat_map-append}
 use Rattle.bound_base.specs.Outside.{appended, AppendsFront}
 use Rattle.bound_base.specs.declared.put.PutError.{PutError}
 use Rattle.bound_base.specs.Put.{Puts}
-use Rattle.byte_view.specs.Metadata.{Metadata, table_of, row_of}
 
 pub append-nil : (xs : List ℕ) → xs ++ [] ≡ xs
 append-nil [] = refl
@@ -64,10 +63,6 @@ pub texts-more : {X : Type 0} (f : X → List ℕ) (xs : List X) (n : ℕ) (x : 
     → flat_map f (take (suc n) xs) ≡ flat_map f (take n xs) ++ f x
 texts-more f xs n x e =
     ap (flat_map f) (take-suc-at xs n x e) ∙ flat_map-append f (take n xs) (x ∷ []) ∙ ap (λ y. flat_map f (take n xs) ++ y) (append-nil (f x))
-
--- the row numbered n + 1 stands at place n
-pub row-at : (m : Metadata) (table n : ℕ) (found : Option (List ℕ)) → found ≡ row_of m table (n + 1) → slice_get (table_of m table) n ≡ found
-row-at m table n found e = let f : found ≡ row_of m table (suc n) = e ∙ ap (row_of m table) (add-one n) in sym f
 
 -- one more line is put
 pub lines-more : {X : Type 0} (f : X → List ℕ) (s t u : Option (List ℕ)) (xs : List X) (n : ℕ) (x : X) → t ≡ appended s (flat_map f (take n xs))

@@ -1,7 +1,7 @@
 -- What plhost answers to words and files.
 use Rattle.std.specs.Prelude.{◌≡◌, ℕ, List, Option, Some, None}
 use Rattle.bound_base.specs.Outside.{Files}
-use Rattle.byte_view.specs.Assembly.{assembly}
+use Rattle.type_model.specs.Part.{assembly_types}
 use Rattle.host_run.specs.declared.command.Command.{Command}
 use Rattle.host_run.specs.declared.command.Command.TheVariants.{Imports, Stubs, Native, Run, Drill}
 use Rattle.host_run.specs.Grammar.{command}
@@ -11,7 +11,7 @@ use Rattle.host_run.specs.Native.{native_of}
 
 -- `imports` of a file
 abbrev pub imports_answer : List ℕ → Option (List ℕ) → Answer
-imports_answer name = file_answer (λ bytes. imports_of (assembly bytes)) name
+imports_answer name = file_answer (λ bytes. imports_of (assembly_types bytes)) name
 
 -- `native` of a library
 abbrev pub native_answer : List ℕ → List ℕ → List ℕ → Option (List ℕ) → Answer

@@ -1,7 +1,7 @@
 -- Which files a call reads, in order.
 use Rattle.std.specs.Prelude.{ℕ, Bool, false, ◌&&◌, nat_le, is_ok, if◌then◌else◌, List, [], ◌∷◌, length, Option, Some, None}
 use Rattle.bound_base.specs.Outside.{Files}
-use Rattle.byte_view.specs.Assembly.{assembly}
+use Rattle.type_model.specs.Part.{assembly_types}
 use Rattle.host_run.specs.declared.command.Command.{Command}
 use Rattle.host_run.specs.declared.command.Command.TheVariants.{Imports, Stubs, Native, Run, Drill}
 use Rattle.host_run.specs.Files.{file_limit}
@@ -15,7 +15,7 @@ is_whole (Some bytes) = nat_le (length bytes) file_limit
 -- and it is an assembly
 abbrev pub has_assembly : Option (List ℕ) → Bool
 has_assembly None = false
-has_assembly (Some bytes) = nat_le (length bytes) file_limit && is_ok (assembly bytes)
+has_assembly (Some bytes) = nat_le (length bytes) file_limit && is_ok (assembly_types bytes)
 
 -- a file that is read, and whether the call goes on to the next one with what is held under its
 -- name

@@ -1,6 +1,7 @@
 //! The top call of plhost: words, files and streams in, output and a status out.
 #![tactic(auto)]
 
+mod assemblies;
 mod closing;
 mod command;
 mod file_names;

@@ -5,6 +5,7 @@ pub mod View
 pub mod TypeIds
 pub mod Types
 pub mod Members
+pub mod ImportRows
 pub mod FullNames
 pub mod Holding
 pub mod MemberViews

@@ -7,6 +7,8 @@ use Rattle.type_model.specs.declared.members.MethodRow.{MethodRow}
 use Rattle.type_model.specs.declared.members.Import.{Import as CodeImport}
 use Rattle.type_model.specs.declared.members.FieldRow.{FieldRow as CodeField}
 use Rattle.type_model.specs.declared.members.TypeRow.{TypeRow as CodeType}
+use Rattle.type_model.specs.declared.import_rows.ImportRow.{ImportRow as CodeImportRow}
+use Rattle.type_model.specs.ImportRows.{ImportRow}
 use Rattle.type_model.specs.Members.{Marshalled, Method, Import, FieldRow, TypeRow}
 
 abbrev pub view_marshalled : CodeMarshalled → Marshalled
@@ -50,4 +52,11 @@ view_type_row row = record {
   least = row.least;
   first = row.first;
   end = row.end;
+}
+
+abbrev pub view_import_row : CodeImportRow → ImportRow
+view_import_row row = record {
+  library = row.module.now;
+  entry = row.entry.now;
+  method = row.method;
 }

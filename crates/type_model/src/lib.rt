@@ -10,6 +10,7 @@ mod core_types;
 mod edges;
 mod enclosers;
 mod fields;
+mod import_rows;
 mod loading;
 mod members;
 mod model;
@@ -25,6 +26,7 @@ mod table_numbers;
 mod type_ids;
 mod ways;
 
+pub use import_rows::ImportRow;
 pub use loading::load;
 pub use members::{FieldRow, Import, Marshalled, MethodRow, TypeRow};
 pub use model::Types;

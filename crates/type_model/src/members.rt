@@ -125,7 +125,7 @@ impl Types {
     }
 
     /// The name of a library, by its row of ModuleRef; empty for row 0.
-    fn library_name(&self, scope: u32) -> &[u8]
+    pub fn library_name(&self, scope: u32) -> &[u8]
         ensures { result.now ≡ definition.library_name self.now scope }
     {
         match self.image().row(MODULE_REFS, u64::from(scope)) {

@@ -1,30 +1,25 @@
 use Rattle.std.proofs.Common.{ap, refl}
 use Rattle.std.proofs.lemmas.Result.{err_from_is_err_and}
-use Rattle.byte_view.specs.Assembly.{assembly}
+use Rattle.bound_base.specs.Image.{refusal}
+use Rattle.type_model.specs.Part.{assembly_types}
 use Rattle.host_run.specs.Answer.{done}
 use Rattle.host_run.specs.Imports.{imports_text, imports_of}
-use Rattle.bound_base.specs.Image.{refusal}
-use Rattle.byte_view.proofs.Images.{headers_refuse, metadata_refuses, assembly_read}
 use Rattle.host_run.proofs.Images.{finishes-broken, finishes-same}
 use Rattle.host_run.proofs.Finished.{finishes-done, finishes-stopped}
 use Rattle.host_run.proofs.imports.put_imports_of.Goals as goal
 
 pub returns-in-Err : goal.returns-in-Err
 returns-in-Err g c =
-    finishes-broken (refusal c.in-Err.error) (assembly c.args.bytes.now) c.broken_image.result _ (headers_refuse refusal c.in-Err.error c.args.bytes.now c.in-Err.ensures.headers) c.broken_image.ensures refl refl
-
-pub returns-in-Err-read_meta : goal.returns-in-Err-read_meta
-returns-in-Err-read_meta g c =
-    finishes-broken (refusal c.in-Err-read_meta.error) (assembly c.args.bytes.now) c.broken_image-in-Err-read_meta.result _ (metadata_refuses refusal c.in-Err-read_meta.error c.args.bytes.now _ c.in-Ok.ensures.headers c.in-Err-read_meta.ensures.reads) c.broken_image-in-Err-read_meta.ensures refl refl
+    finishes-broken (refusal c.in-Err.error) (assembly_types c.args.bytes.now) c.broken_image.result _ c.in-Err.ensures c.broken_image.ensures refl refl
 
 pub returns-in_err-put_imports : goal.returns-in_err-put_imports
 returns-in_err-put_imports g c =
     let p = err_from_is_err_and c.from_residual.result c.from_residual.ensures.1 in
-    let m = c.in-Ok-read_meta.meta in
+    let m = c.in-Ok.types in
     rw (p.1, p.2)
-    (finishes-same (done (imports_text m)) (imports_of (assembly c.args.bytes.now)) _ _ (ap imports_of (assembly_read c.args.bytes.now _ m c.in-Ok.ensures.headers c.in-Ok-read_meta.ensures.reads)) (finishes-stopped (imports_text m) _ _ c.in_err-put_imports.ensures.puts c.in_err-put_imports.ensures.counted c.in_err-put_imports.ensures.count))
+    (finishes-same (done (imports_text m)) (imports_of (assembly_types c.args.bytes.now)) _ _ (ap imports_of c.in-Ok.ensures) (finishes-stopped (imports_text m) _ _ c.in_err-put_imports.ensures.puts c.in_err-put_imports.ensures.counted c.in_err-put_imports.ensures.count))
 
 pub returns : goal.returns
 returns g c =
-    let m = c.in-Ok-read_meta.meta in
-    finishes-same (done (imports_text m)) (imports_of (assembly c.args.bytes.now)) _ _ (ap imports_of (assembly_read c.args.bytes.now _ m c.in-Ok.ensures.headers c.in-Ok-read_meta.ensures.reads)) (finishes-done (imports_text m) c.done.result _ c.done.ensures.status c.done.ensures.texts c.in_ok-put_imports.ensures.puts c.in_ok-put_imports.ensures.counted c.in_ok-put_imports.ensures.count)
+    let m = c.in-Ok.types in
+    finishes-same (done (imports_text m)) (imports_of (assembly_types c.args.bytes.now)) _ _ (ap imports_of c.in-Ok.ensures) (finishes-done (imports_text m) c.done.result _ c.done.ensures.status c.done.ensures.texts c.in_ok-put_imports.ensures.puts c.in_ok-put_imports.ensures.counted c.in_ok-put_imports.ensures.count)

@@ -1,5 +1,5 @@
 use Rattle.std.proofs.Common.{[], refl, ap, Some, Err}
-use Rattle.byte_view.specs.Assembly.{assembly}
+use Rattle.type_model.specs.Part.{assembly_types}
 use Rattle.host_run.specs.declared.command.Command.TheVariants.{Imports}
 use Rattle.host_run.specs.Imports.{imports_of}
 use Rattle.host_run.specs.Readings.{readings, names_of}
@@ -8,10 +8,10 @@ use Rattle.host_run.proofs.top_call.imports.Goals as goal
 
 pub returns-in-Ok : goal.returns-in-Ok
 returns-in-Ok g c =
-    obeys-read (λ bytes. imports_of (assembly bytes)) c.args.file (names_of (readings (Some (Imports c.args.file)) [])) c.put_imports_of.result _ _ c.in-Ok.bytes
+    obeys-read (λ bytes. imports_of (assembly_types bytes)) c.args.file (names_of (readings (Some (Imports c.args.file)) [])) c.put_imports_of.result _ _ c.in-Ok.bytes
     (rw c.as_str.ensures at c.in-Ok.ensures.whole) c.in-Ok.ensures.of_bytes c.in-Ok.ensures.small c.in-Ok.ensures.uncounted c.in-Ok.ensures.kept (rw c.as_slice.ensures at c.put_imports_of.ensures)
 
 pub returns-in-Err : goal.returns-in-Err
 returns-in-Err g c =
-    obeys-unread (λ bytes. imports_of (assembly bytes)) c.args.file (names_of (readings (Some (Imports c.args.file)) [])) c.unread.result _ _ c.in-Err.error
+    obeys-unread (λ bytes. imports_of (assembly_types bytes)) c.args.file (names_of (readings (Some (Imports c.args.file)) [])) c.unread.result _ _ c.in-Err.error
     (λ files. contains-first c.args.file _) (rw c.as_str.ensures at c.in-Err.ensures.whole) (λ e. c.in-Err.ensures.failed (ap Err e)) c.in-Err.ensures.uncounted c.in-Err.ensures.count c.in-Err.ensures.kept c.unread.ensures refl refl
