@@ -312,7 +312,7 @@ module _ (known : Known) (ordered : IsInOrder known) where
       let sized = marked_sized u (cond p.reference column.ByReference column.ByValue) (parameter_column p.reference) p m.value m.was in
       subst IsSizedStep m.is (cell_sized k m.value.entry.cell m.value.entry.shape m.value.mark sized)
 
-  steps_sized : (u : Bool) (k : ℕ) (ps : List Passed) (steps : List Step) → each_from (step_of known u) k ps ≡ Ok steps → All IsSizedStep steps
+  pub steps_sized : (u : Bool) (k : ℕ) (ps : List Passed) (steps : List Step) → each_from (step_of known u) k ps ≡ Ok steps → All IsSizedStep steps
   steps_sized u k [] steps h = let same : [] ≡ steps = cc in subst (All IsSizedStep) same (All-nil IsSizedStep)
   steps_sized u k (p ∷ ps) steps h =
       let f = and_then_ok (λ (a : Step). map_ok (λ (rest : List Step). a ∷ rest) (each_from (step_of known u) (k + 1) ps)) (refused_at (Arg k) (step_of known u k p)) steps h in
@@ -320,7 +320,7 @@ module _ (known : Known) (ordered : IsInOrder known) where
       let first = step_sized u k p f.value (refused_at_ok (Arg k) (step_of known u k p) f.value f.was) in
       subst (All IsSizedStep) g.is (All-cons IsSizedStep f.value g.value first (steps_sized u (k + 1) ps g.value g.was))
 
-  result_sized : (u : Bool) (p : Option Passed) (r : Res) → returned known u column.Returned p ≡ Ok r → IsSizedResult r
+  pub result_sized : (u : Bool) (p : Option Passed) (r : Res) → returned known u column.Returned p ≡ Ok r → IsSizedResult r
   result_sized u None r h = let same : res.Void ≡ r = cc in subst IsSizedResult same tt
   result_sized u (Some p) r h =
       let there = by_value p.reference (map_ok returned_by (and_then (λ (e : Entry). laid e.shape e) (entry_in known u column.Returned p))) r h in

@@ -21,9 +21,6 @@ pub const TYPE_DEFS: u8 = 0x02;
 /// The `base` of the first core type; those below it are rows of TypeDef.
 pub const FIRST_CORE: u32 = 0x0100_0000;
 
-/// The base class of enums, by its `base`.
-const ENUM: u32 = FIRST_CORE + 2;
-
 const UINT_PTR: u32 = FIRST_CORE + 16;
 
 /// The core types that are in the table by themselves, by their places among core types.
@@ -59,11 +56,7 @@ fn file_kind(alloc: Global, types: &Types, t: u32) -> Result<Kind, NoMemory>
     ensures { IfOk result (λ kind. kind ≡ spec_file_kind types.now t) }
 {
     let id = TypeId { base: t, arrays: 0 };
-    let base_of_enums = TypeId {
-        base: ENUM,
-        arrays: 0,
-    };
-    if types.is_below(id, base_of_enums) {
+    if types.bases().is_below_enum(id) {
         return Ok(enum_kind(types.enum_of(alloc, id)?));
     }
     Ok(if types.is_value_type(id) {
