@@ -8,7 +8,6 @@ pub mod Held
 pub mod FromOne
 pub mod Unsound
 pub mod Refused
-pub mod Enclosing
 pub mod RowCopies
 pub mod Pooling
 pub mod SharedSigs
@@ -18,3 +17,6 @@ pub mod Finding
 pub mod Told
 pub mod RowNames
 pub mod SpecWays
+pub mod Enclosing
+pub mod LawsOfTypes
+pub mod NameChains

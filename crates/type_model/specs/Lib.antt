@@ -18,3 +18,5 @@ pub mod Pool
 pub mod Names
 pub mod Ways
 pub mod ByName
+pub mod Laws
+pub mod NameChains

@@ -24,6 +24,12 @@ pub const ENUM: u8 = 2;
 
 pub const ARRAY: u8 = 3;
 
+pub const STRING: u8 = 4;
+
+pub const INT32: u8 = 11;
+
+pub const VOID: u8 = 17;
+
 pub const DELEGATE: u8 = 22;
 
 pub const SAFE_HANDLE: u8 = 30;

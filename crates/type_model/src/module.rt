@@ -5,12 +5,12 @@ ghost use Rattle.pe_reader.specs.Pe.{headers_of};
 ghost use Rattle.std.specs.Option.{option_copied};
 ghost use Rattle.byte_view.specs.Headers.{bytes_at as bytes_of_range, bytes_from};
 ghost use Rattle.type_model.specs.Module.{module_of, rows as rows_in, row as row_of, cell as cell_of, first_with as first_row_with, row_count as rows_of, text as text_of, blob as blob_of};
-ghost use Rattle.type_model.specs.Rows.{run_end as end_of_run, owner as owner_of};
+ghost use Rattle.type_model.specs.Rows.{run_end as end_of_run, owner as owner_of, encloser as encloser_of};
 ghost use Rattle.type_model.specs.TypeIds.{is_row as is_row_of};
 
 use crate::copies::{copy, copy_headers, copy_tables};
 use crate::table::{Row, Table};
-use crate::table_numbers::{ROW_LIMIT, TYPE_DEFS};
+use crate::table_numbers::{NESTED_CLASSES, ROW_LIMIT, TYPE_DEFS};
 use bound_base::{Bytes, Items, NoMemory};
 use meta_tables::{Meta, entry_at, text_at};
 use pe_reader::{Pe, at_rva, rest_at};
@@ -122,6 +122,16 @@ impl Module {
         self.rows(table)
             .iter()
             .find(|row| u64::from(row[column]) == value)
+    }
+
+    /// The type that encloses a nested one, by the first row of NestedClass that names it; 0 for a type that isn't nested.
+    pub fn encloser(&self, t: u32) -> u32
+        ensures { result ≡ encloser_of self.now t }
+    {
+        match self.first_with(NESTED_CLASSES, 0, u64::from(t)) {
+            Some(row) => row[1],
+            None => 0,
+        }
     }
 
     /// Whether a token may name a row of a table: one that is there, and has 24 bits.
