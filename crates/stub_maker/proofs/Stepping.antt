@@ -1,9 +1,13 @@
 -- Answers for parameters in order, one more at a time.
-use Rattle.std.proofs.Common.{◌≡◌, ℕ, ◌+◌, List, [], ◌∷◌, ◌++◌, length, Result, Ok, Err, refl, ap, sym, subst, arith, ◌∙◌}
+use Rattle.std.proofs.Common.{◌≡◌, ℕ, ◌+◌, ◌<◌, List, [], ◌∷◌, ◌++◌, length, take, drop, get_or, Result, Ok, Err, refl, ap, sym, subst, arith, ◌∙◌}
+use Rattle.std.proofs.lemmas.List.{take-append-drop, take_more, drop_more, length-take}
 use Rattle.stub_maker.specs.declared.kinds.Passed.{Passed}
 use Rattle.stub_maker.specs.declared.refused.Param.TheVariants.{Arg}
+use Rattle.stub_maker.specs.declared.refused.StubBad.{StubBad}
+use Rattle.stub_maker.specs.declared.refused.StubBad.TheVariants.{Outside, Memory}
 use Rattle.stub_maker.specs.declared.refused.Why.{Why}
 use Rattle.stub_maker.specs.Answers.{and_then, map_ok}
+use Rattle.stub_maker.specs.Crossing.{IsReturned, IsStep}
 use Rattle.stub_maker.specs.Rules.{Refused, each_from, refused_at}
 use Rattle.stub_maker.proofs.Orderly.{and_then_ok, map_ok_ok, refused_at_ok}
 
@@ -61,3 +65,35 @@ each_stops {A} f k (q ∷ ps) p qs all w e h =
     let rest : each_from f (k + 1) (ps ++ p ∷ qs) ≡ Err (record { param = Arg (k + 1 + length ps); why = w }) = each_stops f (k + 1) ps p qs o.others w o.were there in
     each_after f k q (ps ++ p ∷ qs) o.first o.was
     ∙ (ap (map_ok (λ (l : List A). o.first ∷ l)) rest ∙ ap (λ n. Err (record { param = Arg n; why = w })) (sym same))
+
+-- the same where parameters are taken from a list
+taken_length : (ps : List Passed) (i : ℕ) → i < length ps → 0 + length (take i ps) ≡ i
+taken_length ps i within = omega (arith, length-take i ps)
+
+pub step_taken : {A : Type 0} (f : ℕ → Passed → Result A Why) (ps : List Passed) (i : ℕ) (d : Passed) (all : List A) (a : A)
+    → i < length ps → each_from f 0 (take i ps) ≡ Ok all → f i (get_or ps i d) ≡ Ok a
+    → each_from f 0 (take (i + 1) ps) ≡ Ok (all ++ a ∷ [])
+step_taken {A} f ps i d all a within e h =
+    let p : Passed = get_or ps i d in
+    let there : f (0 + length (take i ps)) p ≡ Ok a = subst (λ n. f n p ≡ Ok a) (sym (taken_length ps i within)) h in
+    ap (each_from f 0) (take_more ps i d within) ∙ each_more f 0 (take i ps) p all a e there
+
+pub step_stopped : {A : Type 0} (f : ℕ → Passed → Result A Why) (ps : List Passed) (i : ℕ) (d : Passed) (all : List A) (w : Why)
+    → i < length ps → each_from f 0 (take i ps) ≡ Ok all → f i (get_or ps i d) ≡ Err w
+    → each_from f 0 ps ≡ Err (record { param = Arg i; why = w })
+step_stopped {A} f ps i d all w within e h =
+    let p : Passed = get_or ps i d in
+    let there : f (0 + length (take i ps)) p ≡ Err w = subst (λ n. f n p ≡ Err w) (sym (taken_length ps i within)) h in
+    let whole : ps ≡ take i ps ++ p ∷ drop (i + 1) ps =
+        sym (take-append-drop i ps) ∙ ap (λ (l : List Passed). take i ps ++ l) (drop_more ps i d within) in
+    ap (each_from f 0) whole
+    ∙ (each_stops f 0 (take i ps) p (drop (i + 1) ps) all w e there
+    ∙ ap (λ n. Err (record { param = Arg n; why = w })) (taken_length ps i within))
+
+-- a step that was answered stops the whole with its reason, or for want of memory
+pub step_fails : {A : Type 0} (f : ℕ → Passed → Result A Why) (ps : List Passed) (i : ℕ) (d : Passed) (all : List A) (bad : StubBad)
+    → i < length ps → each_from f 0 (take i ps) ≡ Ok all → IsStep {A = A} (Arg i) (Err bad) (f i (get_or ps i d))
+    → IsReturned {A = List A} (Err bad) (each_from f 0 ps)
+step_fails f ps i d all Memory within e h = tt
+step_fails f ps i d all (Outside p w) within e h =
+    step_stopped f ps i d all w within e h.1 ∙ ap (λ q. Err (record { param = q; why = w })) (sym h.0)
