@@ -1,3 +1,4 @@
+pub mod Calling
 pub mod Computed
 pub mod InField
 pub mod Marking

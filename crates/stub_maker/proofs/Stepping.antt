@@ -85,7 +85,7 @@ step_stopped {A} f ps i d all w within e h =
     let p : Passed = get_or ps i d in
     let there : f (0 + length (take i ps)) p ≡ Err w = subst (λ n. f n p ≡ Err w) (sym (taken_length ps i within)) h in
     let whole : ps ≡ take i ps ++ p ∷ drop (i + 1) ps =
-        sym (take-append-drop i ps) ∙ ap (λ (l : List Passed). take i ps ++ l) (drop_more ps i d within) in
+    sym (take-append-drop i ps) ∙ ap (λ (l : List Passed). take i ps ++ l) (drop_more ps i d within) in
     ap (each_from f 0) whole
     ∙ (each_stops f 0 (take i ps) p (drop (i + 1) ps) all w e there
     ∙ ap (λ n. Err (record { param = Arg n; why = w })) (taken_length ps i within))

@@ -7,6 +7,7 @@ use Rattle.stub_maker.specs.declared.kinds.TypeKind.TheVariants.{One, Array}
 use Rattle.stub_maker.specs.declared.kinds.Descriptor.{Descriptor}
 use Rattle.stub_maker.specs.declared.kinds.Descriptor.TheVariants.{Is}
 use Rattle.stub_maker.specs.declared.kinds.Passed.{Passed}
+use Rattle.stub_maker.specs.declared.callbacks.Counted.{Counted}
 use Rattle.stub_maker.specs.declared.table.Column.TheVariants as column
 use Rattle.stub_maker.specs.declared.table.Cell.{Cell}
 use Rattle.stub_maker.specs.declared.table.Cell.TheVariants as cell
@@ -22,11 +23,6 @@ use Rattle.stub_maker.specs.Answers.{and_then, map_ok}
 use Rattle.stub_maker.specs.Shapes.{Known, Entry}
 use Rattle.stub_maker.specs.declared.signature.Signature.{Signature}
 use Rattle.stub_maker.specs.Rules.{Marked, Refused, encoding_in, each_from, entry_in, is_plain_signature, laid, mark_in, refused_at, returned, whole, with_mark}
-
--- where a callback finds an array's length: a number of elements, and the number of a parameter that gives further ones
-pub record Counted : Type 0 where
-  pub count : Option ℕ
-  pub parameter : Option ℕ
 
 -- bit 0 of the flag, 1 where there is no flag, says that the parameter's number is used
 abbrev pub is_used : Option ℕ → Bool
@@ -56,13 +52,14 @@ has_length params c = by_parameter c.parameter
     by_parameter (Some k) = gives_length (slice_get params k)
     by_parameter None = is_some c.count
 
--- an array that is copied for a callback is refused for its descriptor where that gives no length
+-- an array that is copied for a callback must have a length
+abbrev pub length_is_there : Cell → List Passed → Descriptor → Bool
+length_is_there cell.CountedCopy params d = has_length params (counted_by d)
+length_is_there _ params d = true
+
+-- it is refused for its descriptor where that gives no length
 abbrev pub with_length : List Passed → Passed → Entry → Result Entry Why
-with_length params p e = by_cell e.cell
-  where
-    by_cell : Cell → Result Entry Why
-    by_cell cell.CountedCopy = if has_length params (counted_by p.descriptor) then Ok e else Err why.Descriptor
-    by_cell _ = Ok e
+with_length params p e = if length_is_there e.cell params p.descriptor then Ok e else Err why.Descriptor
 
 -- a parameter of a callback: its entry with its length, then its mark, then its layout
 abbrev pub marked_of : Known → List Passed → Passed → Result Marked Why

@@ -91,7 +91,7 @@ fn refusal<K: KnownTypes>(known: &K, unicode: bool, column: Column, passed: Pass
 }
 
 /// The entry of a parameter or a result in a column, or why it has none.
-fn entry_in<K: KnownTypes>(
+pub fn entry_in<K: KnownTypes>(
     known: &K,
     unicode: bool,
     column: Column,
@@ -107,7 +107,7 @@ fn entry_in<K: KnownTypes>(
 }
 
 /// What is found, with its mark, where it may have it and its shape is laid out.
-fn marked_if(found: Found, mark: Option<Mark>, is_laid_out: bool) -> Result<MarkedEntry, Why>
+pub fn marked_if(found: Found, mark: Option<Mark>, is_laid_out: bool) -> Result<MarkedEntry, Why>
     ensures { result ≡ spec_marked_if found mark is_laid_out }
 {
     match mark {
@@ -123,7 +123,7 @@ fn marked_if(found: Found, mark: Option<Mark>, is_laid_out: bool) -> Result<Mark
 }
 
 /// The column of a parameter.
-fn column_of(passed: Passed, by_value: Column, by_reference: Column) -> Column
+pub fn column_of(passed: Passed, by_value: Column, by_reference: Column) -> Column
     requires value { by_value ≢ Column.Field }
     requires reference { by_reference ≢ Column.Field }
     ensures column { result ≡ (if passed.reference then by_reference else by_value) }
@@ -210,7 +210,7 @@ pub fn step_of<K: ShapedTypes>(
 }
 
 /// The entry of a result in a column, and its layout.
-fn laid_entry<K: KnownTypes>(
+pub fn laid_entry<K: KnownTypes>(
     known: &K,
     unicode: bool,
     column: Column,

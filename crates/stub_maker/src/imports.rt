@@ -31,11 +31,7 @@ pub fn outside_as_whole(why: Why) -> StubBad
 
 /// The stub of an import, or what of it has no row in the marshalling table and why: that its signature isn't preserved, then
 /// its method and its signature as a whole, then the first parameter from the left, then the result.
-pub fn stub_of<K: ShapedTypes>(
-    alloc: Global,
-    known: &K,
-    import: &Imported,
-) -> Result<Stub, StubBad>
+pub fn stub_of<K: ShapedTypes>(alloc: Global, known: &K, import: &Imported) -> Result<Stub, StubBad>
     ensures { IsReturned result (spec_stub_of (K.known known.now) import.now) }
 {
     if !import.preserves_signature {

@@ -2,6 +2,7 @@
 #![tactic(auto)]
 
 mod bare_shapes;
+mod callbacks;
 mod crossing;
 mod entries;
 mod facts;
@@ -21,6 +22,7 @@ mod stub;
 mod table;
 
 pub use bare_shapes::bare_shape;
+pub use callbacks::is_callable;
 pub use crossing::step_of;
 pub use entries::{Contents, KnownTypes, ShapedTypes};
 pub use facts::{FieldFacts, StructFacts, invoke_signature, struct_facts};
