@@ -51,6 +51,23 @@ field_array known u base k (Is (ByValText count)) = refl
 field_array known u base k (Is (ByValArray count code)) = part_alone (shape_by known u row.InlineArrays (Array base k) (Is (ByValArray count code)))
 field_array known u base k (Is (LpArray code parameter count flag)) = no_array (option_and_then flat_one (element_by known u col.Element k code)) (option_and_then other_one (element_by known u col.Element k code))
 
+-- the entry of a field that is an array
+or_none : (o : Option Entry) → or_else o None ≡ o
+or_none None = refl
+or_none (Some e) = refl
+
+no_entry : (a b : Option Shape) → or_else (entry_if Outside a) (or_else (entry_if Outside b) None) ≡ None
+no_entry a b = outside_twice a b None
+
+pub field_entry : (known : Known) (u : Bool) (base : ℕ) (k : Kind) (d : Descriptor)
+    → first_entry (λ r. shape_by known u r (Array base k) d) col.Field rows ≡ entry_if Part (shape_by known u row.InlineArrays (Array base k) d)
+field_entry known u base k Nothing = no_entry (option_and_then flat_one (behind_pointer known u k Nothing)) (option_and_then other_one (behind_pointer known u k Nothing))
+field_entry known u base k Unread = refl
+field_entry known u base k (Is (Plain code)) = refl
+field_entry known u base k (Is (ByValText count)) = refl
+field_entry known u base k (Is (ByValArray count code)) = or_none (entry_if Part (shape_by known u row.InlineArrays (Array base k) (Is (ByValArray count code))))
+field_entry known u base k (Is (LpArray code parameter count flag)) = no_entry (option_and_then flat_one (element_by known u col.Element k code)) (option_and_then other_one (element_by known u col.Element k code))
+
 -- an array in place has at least one element
 pub inline_when : (known : Known) (u : Bool) (base : ℕ) (k : Kind) (count : ℕ) (code : Option ℕ) → nat_le 1 count ≡ true
     → option_map (λ s. shape.InlineArray base s count) (element_by known u col.InlineElement k code)

@@ -1,10 +1,14 @@
 pub mod Calling
 pub mod Computed
+pub mod FieldOutlines
+pub mod Findings
 pub mod InField
 pub mod Marking
+pub mod Monotone
 pub mod Numbered
 pub mod OneRow
 pub mod Orderly
+pub mod Rising
 pub mod Rowless
 pub mod Sizes
 pub mod Stepping

@@ -9,6 +9,8 @@ pub mod Facts
 pub mod Forms
 pub mod InOrder
 pub mod Laws
+pub mod Learned
+pub mod LearnedOrder
 pub mod Printed
 pub mod Rules
 pub mod Shapes
