@@ -1,5 +1,5 @@
 -- What the rule over the table answers can be printed: its shapes are in order and laid out, and their sizes have 64 bits.
-use Rattle.std.proofs.Common.{◌≡◌, ◌≢◌, ◌⊎◌, inl, inr, ℕ, ◌+◌, ◌<◌, ◌≤◌, ◌^◌, ◌==◌, Bool, true, false, not, cond, ◌&&◌, List, [], ◌∷◌, map, length, Option, Some, None, is_none, Result, Ok, Err, IsTrue, All, nat_lt, nat_le, refl, sym, ap, subst, rules, arith, ◌∙◌}
+use Rattle.std.proofs.Common.{◌≡◌, ◌≢◌, ◌⊎◌, inl, inr, ℕ, ◌+◌, ◌<◌, ◌≤◌, ◌^◌, ◌==◌, Bool, true, false, not, cond, ◌&&◌, List, [], ◌∷◌, map, length, Option, Some, None, is_none, Result, Ok, Err, IfOk, IsTrue, All, nat_lt, nat_le, refl, sym, ap, subst, rules, arith, ◌∙◌}
 use Rattle.std.specs.List.{position}
 use Rattle.std.specs.Option.{option_and_then, option_map}
 use Rattle.std.proofs.lemmas.Bool.Decides.{nat_tests}
@@ -37,6 +37,9 @@ use Rattle.stub_maker.specs.declared.stub.Stub.{Stub}
 use Rattle.stub_maker.specs.declared.signature.Imported.{Imported}
 use Rattle.stub_maker.specs.declared.signature.Signature.{Signature}
 use Rattle.stub_maker.specs.declared.refused.Param.TheVariants.{Arg, Result as TheResult}
+use Rattle.stub_maker.specs.declared.refused.StubBad.{StubBad}
+use Rattle.stub_maker.specs.declared.refused.StubBad.TheVariants.{Outside, Memory}
+use Rattle.stub_maker.specs.Crossing.{IsReturned}
 use Rattle.stub_maker.specs.declared.refused.Why.{Why}
 use Rattle.stub_maker.specs.declared.refused.Why.TheVariants as why
 use Rattle.stub_maker.specs.Answers.{and_then, map_ok}
@@ -348,3 +351,9 @@ module _ (known : Known) (ordered : IsInOrder known) where
   -- a stub can be printed
   pub stub_sized : (i : Imported) (stub : Stub) → stub_of known i ≡ Ok stub → IsSizedStub stub
   stub_sized i stub h = optional_sized i i.signature stub (if_ok i.preserves_signature (stub_by_signature known i i.signature) why.PreserveSig stub h)
+
+  -- so can what a call answers by the rule
+  pub answered_sized : (i : Imported) (r : Result Stub StubBad) → IsReturned r (stub_of known i) → IfOk r IsSizedStub
+  answered_sized i (Ok stub) h = stub_sized i stub h
+  answered_sized i (Err (Outside p w)) h = tt
+  answered_sized i (Err Memory) h = tt

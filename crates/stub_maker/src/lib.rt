@@ -1,6 +1,7 @@
 //! How each import's arguments and result cross to native code and back: its stub, or why it has none.
 #![tactic(auto)]
 
+mod assembly;
 mod bare_shapes;
 mod callbacks;
 mod crossing;
@@ -26,6 +27,7 @@ mod steps;
 mod stub;
 mod table;
 
+pub use assembly::{shape_by, stub_by};
 pub use bare_shapes::bare_shape;
 pub use callbacks::is_callable;
 pub use crossing::step_of;
