@@ -10,7 +10,7 @@ use Rattle.stub_maker.specs.declared.refused.Param.{Param}
 use Rattle.stub_maker.specs.Answers.{and_then, map_ok}
 use Rattle.stub_maker.specs.Shapes.{Entry, Known}
 use Rattle.stub_maker.specs.Rules.{Marked, Refused, each_from}
-use Rattle.stub_maker.specs.Callbacks.{ReceivedMark, length_is_there, marked_of, received_by, received_of, with_length}
+use Rattle.stub_maker.specs.Callbacks.{length_is_there, marked_of, received_of, with_length}
 use Rattle.stub_maker.specs.Crossing.{IsChosen, IsLaid, IsMarked}
 use Rattle.stub_maker.proofs.Stepping.{step_stopped, step_taken}
 

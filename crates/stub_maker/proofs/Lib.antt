@@ -8,6 +8,7 @@ pub mod Monotone
 pub mod Numbered
 pub mod OneRow
 pub mod Orderly
+pub mod Receiving
 pub mod Rising
 pub mod Rowless
 pub mod Sizes

@@ -23,6 +23,7 @@ use Rattle.stub_maker.specs.declared.table.Cell.TheVariants.{Part}
 use Rattle.stub_maker.specs.declared.facts.FieldFacts.{FieldFacts}
 use Rattle.stub_maker.specs.declared.facts.StructFacts.{StructFacts}
 use Rattle.stub_maker.specs.declared.signature.Signature.{Signature}
+use Rattle.stub_maker.specs.declared.backs.ReceivedMark.{ReceivedMark}
 use Rattle.stub_maker.specs.declared.stub.Back.{Back}
 use Rattle.stub_maker.specs.declared.stub.Res.{Res}
 use Rattle.stub_maker.specs.declared.refused.Param.{Param}
@@ -35,7 +36,7 @@ use Rattle.stub_maker.specs.Forms.{when}
 use Rattle.stub_maker.specs.Shapes.{Entry, Known, behind_pointer, described, element_by, entry_by, entry_if, first_entry, one_by, shape_by, shape_of_form}
 use Rattle.stub_maker.specs.Entries.{pointed, row_form}
 use Rattle.stub_maker.specs.Rules.{Marked, Refused, each_from, entry_in, found_entry, is_plain_signature, laid, mark_in, refused_at, returned, returned_by, whole, with_mark}
-use Rattle.stub_maker.specs.Callbacks.{ReceivedMark, back_by, back_of, back_of_signature, marked_of, received_by, received_of, with_length}
+use Rattle.stub_maker.specs.Callbacks.{back_by, back_of, back_of_signature, marked_of, received_by, received_of, with_length}
 use Rattle.stub_maker.specs.Facts.{TypeFacts, all_some, field_shape, struct_shape}
 use Rattle.stub_maker.proofs.InField.{field_entry}
 use Rattle.stub_maker.proofs.OneRow.{the_array, the_entry}
@@ -217,7 +218,7 @@ module _ (less more : Known)
 
   received_kept : (params : List Passed) (k : ℕ) (p : Passed) → KeepsOk (received_of less params k p) (received_of more params k p)
   received_kept params k p =
-      keeps_map_ok (λ (m : Marked). record { received = received_by p m; mark = m.mark }) (marked_of less params p) (marked_of more params p) (marked_kept params p)
+      keeps_map_ok (λ (m : Marked). record { received = received_by p m.entry.cell m.entry.shape; mark = m.mark }) (marked_of less params p) (marked_of more params p) (marked_kept params p)
 
   returned_kept : (u : Bool) (column : Column) (p : Option Passed) → KeepsOk (returned less u column p) (returned more u column p)
   returned_kept u column None = λ r e. e

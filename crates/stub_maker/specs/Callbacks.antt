@@ -1,5 +1,6 @@
 -- The rule over the marshalling table for callbacks: how the parameters and the result of a delegate's Invoke cross.
 use Rattle.std.specs.Prelude.{ℕ, ◌%◌, ◌==◌, Bool, true, false, ◌&&◌, not, if◌then◌else◌, List, map, slice_get, Option, Some, None, is_some, Result, Ok, Err}
+use Rattle.native_layout.specs.declared.shapes.Shape.{Shape}
 use Rattle.marshal_spec.specs.declared.spec.Spec.TheVariants.{LpArray}
 use Rattle.stub_maker.specs.declared.kinds.Kind.TheVariants as kind
 use Rattle.stub_maker.specs.declared.kinds.TypeKind.{TypeKind}
@@ -7,6 +8,8 @@ use Rattle.stub_maker.specs.declared.kinds.TypeKind.TheVariants.{One, Array}
 use Rattle.stub_maker.specs.declared.kinds.Descriptor.{Descriptor}
 use Rattle.stub_maker.specs.declared.kinds.Descriptor.TheVariants.{Is}
 use Rattle.stub_maker.specs.declared.kinds.Passed.{Passed}
+use Rattle.stub_maker.specs.declared.backs.ReceivedMark.{ReceivedMark}
+use Rattle.stub_maker.specs.declared.backs.ReceivedParams.{ReceivedParams}
 use Rattle.stub_maker.specs.declared.callbacks.Counted.{Counted}
 use Rattle.stub_maker.specs.declared.table.Column.TheVariants as column
 use Rattle.stub_maker.specs.declared.table.Cell.{Cell}
@@ -74,33 +77,29 @@ abbrev pub element_base : TypeKind → ℕ
 element_base (Array base element) = base
 element_base (One k) = 0
 
-abbrev pub received_by : Passed → Marked → Received
-received_by p m = by_cell m.entry.cell
-  where
-    by_cell : Cell → Received
-    by_cell cell.Text = received.Text (encoding_in m.entry.shape)
-    by_cell cell.Value = received.Value m.entry.shape
-    by_cell cell.PlainValue = received.Value m.entry.shape
-    by_cell cell.Place = received.Place m.entry.shape
-    by_cell cell.PlainPlace = received.Place m.entry.shape
-    by_cell cell.CountedCopy =
-        let c = counted_by p.descriptor in received.Copy (element_base p.kind) m.entry.shape c.count c.parameter
-    by_cell _ = received.Word m.entry.shape
+abbrev pub received_by : Passed → Cell → Shape → Received
+received_by p cell.Text s = received.Text (encoding_in s)
+received_by p cell.Value s = received.Value s
+received_by p cell.PlainValue s = received.Value s
+received_by p cell.Place s = received.Place s
+received_by p cell.PlainPlace s = received.Place s
+received_by p cell.CountedCopy s =
+    let c = counted_by p.descriptor in received.Copy (element_base p.kind) s c.count c.parameter
+received_by p _ s = received.Word s
 
 -- a parameter of a callback, and its mark
-pub record ReceivedMark : Type 0 where
-  pub received : Received
-  pub mark : Mark
-
 abbrev pub received_of : Known → List Passed → ℕ → Passed → Result ReceivedMark Why
 received_of known params k p =
-    map_ok (λ m. record { received = received_by p m; mark = m.mark }) (marked_of known params p)
+    map_ok (λ m. record { received = received_by p m.entry.cell m.entry.shape; mark = m.mark }) (marked_of known params p)
+
+abbrev pub in_lists : List ReceivedMark → ReceivedParams
+in_lists params = record { received = map (λ r. r.received) params; marks = map (λ r. r.mark) params }
 
 abbrev pub back_by : List ReceivedMark → Res → Back
 back_by params result_way = record {
-  params = map (λ r. r.received) params;
+  params = (in_lists params).received;
   result = result_way;
-  marks = map (λ r. r.mark) params;
+  marks = (in_lists params).marks;
 }
 
 abbrev pub back_of_signature : Known → Signature → Result Back Refused

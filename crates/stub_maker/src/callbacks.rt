@@ -83,7 +83,7 @@ fn value_comes_back<K: KnownTypes>(known: &K, passed: Passed) -> bool
 }
 
 /// A parameter's entry, its mark and its layout.
-fn marked_of<K: KnownTypes>(
+pub fn marked_of<K: KnownTypes>(
     known: &K,
     params: &[Passed],
     passed: Passed,
@@ -166,7 +166,7 @@ fn is_integer(kind: TypeKind) -> bool
     )
 }
 
-fn counted_by(descriptor: Descriptor) -> Counted
+pub fn counted_by(descriptor: Descriptor) -> Counted
     ensures { result ≡ spec_counted_by descriptor }
 {
     match descriptor {

@@ -157,7 +157,7 @@ pub fn marked<K: KnownTypes>(
 }
 
 /// How a text is written; no other shape stands where a text does.
-fn encoding_in(shape: &Shape) -> Enc
+pub fn encoding_in(shape: &Shape) -> Enc
     ensures { result ≡ spec_encoding_in shape.now }
 {
     match shape {

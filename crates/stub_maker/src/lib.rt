@@ -2,6 +2,7 @@
 #![tactic(auto)]
 
 mod assembly;
+mod backs;
 mod bare_shapes;
 mod callbacks;
 mod crossing;
@@ -28,6 +29,7 @@ mod stub;
 mod table;
 
 pub use assembly::{shape_by, stub_by};
+pub use backs::back_of;
 pub use bare_shapes::bare_shape;
 pub use callbacks::is_callable;
 pub use crossing::step_of;
