@@ -88,7 +88,7 @@ bool_same false false to from = refl
 abbrev pub Rises : TypeFacts → Type 0
 Rises facts = (a b : Known) → Within a b → Within (followed facts a) (followed facts b)
 
-after_next : (facts : TypeFacts) → Rises facts → (n : ℕ) → Within (known_after facts n) (known_after facts (suc n))
+pub after_next : (facts : TypeFacts) → Rises facts → (n : ℕ) → Within (known_after facts n) (known_after facts (suc n))
 unfolding known_after
 after_next facts rises zero = record { structs = λ t s is. absurd (cc); callable = λ t is. absurd (cc) }
 after_next facts rises (suc n) = rises (known_after facts n) (known_after facts (suc n)) (after_next facts rises n)

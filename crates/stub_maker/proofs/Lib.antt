@@ -11,5 +11,6 @@ pub mod Orderly
 pub mod Receiving
 pub mod Rising
 pub mod Rowless
+pub mod ShapesMade
 pub mod Sizes
 pub mod Stepping

@@ -17,3 +17,4 @@ pub mod Shapes
 pub mod Sized
 pub mod Steps
 pub mod Table
+pub mod Trees

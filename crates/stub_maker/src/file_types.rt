@@ -1,6 +1,6 @@
 //! What is known of the types of a file, found once.
 
-ghost use Rattle.std.specs.Prelude.{◌≡◌, IfOk, OnErr, OnOk};
+ghost use Rattle.std.specs.Prelude.{◌≡◌, IfOk, OnErr, OnOk, is_some};
 ghost use Rattle.stub_maker.specs.Described.{AreKinds, known_of};
 ghost use Rattle.stub_maker.specs.Learned.{Agree, known_so_far};
 
@@ -51,6 +51,20 @@ impl<'a> FileTypes<'a> {
         ensures { result.now ≡ self.now }
     {
         self.learned.types()
+    }
+
+    /// Whether a value type has a shape.
+    pub fn has_shape(&self, t: u32) -> bool
+        ensures { result ≡ is_some ((known_of self.now).struct_of t) }
+    {
+        self.learned.outline_at(t).is_some()
+    }
+
+    /// Whether a delegate type has rows in the table.
+    pub fn is_callable(&self, t: u32) -> bool
+        ensures { result ≡ (known_of self.now).is_callable t }
+    {
+        self.learned.callable_at(t)
     }
 
     /// What each type of the file is.

@@ -22,6 +22,7 @@ mod learning;
 mod needs;
 mod printing;
 mod refused;
+mod shape_trees;
 mod signature;
 mod signatures;
 mod steps;
