@@ -29,7 +29,7 @@ mod steps;
 mod stub;
 mod table;
 
-pub use assembly::{shape_by, stub_by};
+pub use assembly::{make_back, make_stub, shape_of};
 pub use backs::back_of;
 pub use bare_shapes::bare_shape;
 pub use callbacks::is_callable;
