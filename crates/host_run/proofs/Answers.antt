@@ -12,9 +12,10 @@ use Rattle.host_run.specs.Grammar.{command}
 use Rattle.host_run.specs.Files.{file_limit}
 use Rattle.host_run.specs.Answer.{Answer, file_answer, usage, too_large}
 use Rattle.host_run.specs.AnswerLaws.{IsNoFailure, AnswersAreNoFailures, IsNoDrill, OtherAnswersAreOne, ReadingEndsAtARefusal}
-use Rattle.host_run.specs.Commands.{IsAnswer, imports_answer, native_answer}
+use Rattle.host_run.specs.Commands.{IsAnswer, imports_answer, native_answer, stubs_answer}
 use Rattle.host_run.specs.Imports.{imports_of}
 use Rattle.host_run.specs.Native.{native_of}
+use Rattle.host_run.specs.Stubs.{stubs_of}
 use Rattle.host_run.specs.Readings.{names_of}
 use Rattle.host_run.proofs.NativeStatuses.{native-status}
 
@@ -32,6 +33,10 @@ imports-own : (read : Result Module Broken) → IsNoFailure (imports_of read).st
 imports-own (Ok m) = record { read = omega arith; put = omega arith; memory = omega arith }
 imports-own (Err broken) = record { read = omega arith; put = omega arith; memory = omega arith }
 
+stubs-own : (read : Result Module Broken) → IsNoFailure (stubs_of read).status
+stubs-own (Ok m) = record { read = omega arith; put = omega arith; memory = omega arith }
+stubs-own (Err broken) = record { read = omega arith; put = omega arith; memory = omega arith }
+
 native-own : (lib symbol numbers bytes : List ℕ) → IsNoFailure (native_of lib symbol numbers bytes).status
 native-own lib symbol numbers bytes =
     native-status IsNoFailure (record { read = omega arith; put = omega arith; memory = omega arith }) (record { read = omega arith; put = omega arith; memory = omega arith }) (record { read = omega arith; put = omega arith; memory = omega arith }) (record { read = omega arith; put = omega arith; memory = omega arith }) (record { read = omega arith; put = omega arith; memory = omega arith })
@@ -44,7 +49,8 @@ answer-own : (c : Option Command) (words : List (List ℕ)) (files : Files) (a :
 answer-own None words files a e = of-answer a usage e usage-own
 answer-own (Some (Imports file)) words files a e =
     of-answer a (imports_answer file (files file)) e (file-own (λ bytes. imports_of (assembly_types bytes)) file (λ bytes. imports-own (assembly_types bytes)) (files file))
-answer-own (Some (Stubs file)) words files a e = of-answer a usage e usage-own
+answer-own (Some (Stubs file)) words files a e =
+    of-answer a (stubs_answer file (files file)) e (file-own (λ bytes. stubs_of (assembly_types bytes)) file (λ bytes. stubs-own (assembly_types bytes)) (files file))
 answer-own (Some (Native lib symbol numbers)) words files a e =
     of-answer a (native_answer lib symbol numbers (files lib)) e (file-own (native_of lib symbol numbers) lib (native-own lib symbol numbers) (files lib))
 answer-own (Some (Run run)) words files a e = of-answer a usage e usage-own

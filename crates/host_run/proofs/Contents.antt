@@ -14,7 +14,7 @@ use Rattle.host_run.specs.declared.command.Command.{Command}
 use Rattle.host_run.specs.declared.command.Command.TheVariants.{Imports, Stubs, Native, Run, Drill}
 use Rattle.host_run.specs.Files.{IsWhole, CountsFile, file_limit}
 use Rattle.host_run.specs.Answer.{Answer, file_answer, usage, absent, too_large}
-use Rattle.host_run.specs.Commands.{IsAnswer, imports_answer, native_answer}
+use Rattle.host_run.specs.Commands.{IsAnswer, imports_answer, native_answer, stubs_answer}
 use Rattle.host_run.specs.Settled.{SettlesAs, SettlesFile}
 use Rattle.host_run.specs.Called.{StoreChange, SinkChange, Tells, Finishes, Obeys}
 use Rattle.host_run.proofs.Outcomes.{unreadable-never, store-quiet, finishes-settled, finishes-memory}
@@ -180,7 +180,7 @@ bytes-of-slice xs small = All-from_get_or (λ byte. byte < 256) xs 0 (λ i _. sm
 pub some-answer : (c : Option Command) (words : List (List ℕ)) (files : Files) → (a : Answer) × IsAnswer c words files a
 some-answer None words files = (usage, refl)
 some-answer (Some (Imports file)) words files = (imports_answer file (files file), refl)
-some-answer (Some (Stubs file)) words files = (usage, refl)
+some-answer (Some (Stubs file)) words files = (stubs_answer file (files file), refl)
 some-answer (Some (Native lib symbol numbers)) words files = (native_answer lib symbol numbers (files lib), refl)
 some-answer (Some (Run run)) words files = (usage, refl)
 some-answer (Some (Drill number)) words files = (usage, refl)

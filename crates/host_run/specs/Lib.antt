@@ -12,5 +12,6 @@ pub mod NativeLaws
 pub mod Readings
 pub mod RunItems
 pub mod Settled
+pub mod Stubs
 pub mod Texts
 pub mod WordMemory

@@ -27,7 +27,7 @@ pub record Reading : Type 0 where
 abbrev pub readings : Option Command → List (List ℕ) → List Reading
 readings None words = []
 readings (Some (Imports file)) words = record { name = file; accepts = has_assembly } ∷ []
-readings (Some (Stubs file)) words = []
+readings (Some (Stubs file)) words = record { name = file; accepts = has_assembly } ∷ []
 readings (Some (Native lib symbol numbers)) words = record { name = lib; accepts = is_whole } ∷ []
 readings (Some (Run run)) words = []
 readings (Some (Drill number)) words = []

@@ -13,6 +13,7 @@ mod numbers;
 mod options;
 mod refusals;
 mod settled;
+mod stubs;
 mod texts;
 mod top_call;
 mod words;

@@ -15,6 +15,7 @@ use crate::imports::put_imports_of;
 use crate::native::native;
 use crate::refusals::{unread, usage};
 use crate::settled::{Halt, Settled};
+use crate::stubs::stubs;
 use crate::words::read_words;
 use bound_base::{Sink, Store};
 use std::alloc::Global;
@@ -81,7 +82,7 @@ fn obey<S: Store, O: Sink>(
 {
     match command {
         Command::Imports(file) => imports(alloc, file, store, out),
-        Command::Stubs(_) => usage(alloc),
+        Command::Stubs(file) => stubs(alloc, file, store, out),
         Command::Native(lib, symbol, numbers) => native(alloc, lib, symbol, &numbers, store, out),
         Command::Run(_) => usage(alloc),
         Command::Drill(_) => usage(alloc),

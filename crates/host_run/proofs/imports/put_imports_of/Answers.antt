@@ -10,7 +10,7 @@ use Rattle.host_run.proofs.imports.put_imports_of.Goals as goal
 
 pub returns-in-Err : goal.returns-in-Err
 returns-in-Err g c =
-    finishes-broken (refusal c.in-Err.error) (assembly_types c.args.bytes.now) c.broken_image.result _ c.in-Err.ensures c.broken_image.ensures refl refl
+    finishes-broken imports_of (λ broken. refl) (refusal c.in-Err.error) (assembly_types c.args.bytes.now) c.broken_image.result _ c.in-Err.ensures c.broken_image.ensures refl refl
 
 pub returns-in_err-put_imports : goal.returns-in_err-put_imports
 returns-in_err-put_imports g c =

@@ -4,13 +4,9 @@ use Rattle.host_run.specs.Grammar.{texts}
 use Rattle.host_run.proofs.Contents.{obeys-usage, usage-for}
 use Rattle.host_run.proofs.top_call.obey.Goals as goal
 
-pub returns-in-Stubs : goal.returns-in-Stubs
-returns-in-Stubs g c =
-    obeys-usage (Some c.args.command) (texts c.args.words.now) _ c.usage.result _ _ (λ files. usage-for (Some c.args.command) _ (texts c.args.words.now) files (ap Some c.in-Stubs.is) refl) c.usage.ensures refl refl refl refl
-
 pub returns-in-Run : goal.returns-in-Run
 returns-in-Run g c =
-    obeys-usage (Some c.args.command) (texts c.args.words.now) _ c.usage-in-Run.result _ _ (λ files. usage-for (Some c.args.command) _ (texts c.args.words.now) files (ap Some c.in-Run.is) refl) c.usage-in-Run.ensures refl refl refl refl
+    obeys-usage (Some c.args.command) (texts c.args.words.now) _ c.usage.result _ _ (λ files. usage-for (Some c.args.command) _ (texts c.args.words.now) files (ap Some c.in-Run.is) refl) c.usage.ensures refl refl refl refl
 
 pub returns : goal.returns
 returns g c =
