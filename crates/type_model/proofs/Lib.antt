@@ -17,6 +17,6 @@ pub mod Finding
 pub mod Told
 pub mod RowNames
 pub mod SpecWays
-pub mod Enclosing
+pub mod RowsByNumber
 pub mod LawsOfTypes
 pub mod NameChains

@@ -18,5 +18,7 @@ pub mod Pool
 pub mod Names
 pub mod Ways
 pub mod ByName
+pub mod FirstRows
+pub mod HeldRows
 pub mod Laws
 pub mod NameChains

@@ -1,7 +1,7 @@
 -- The first type of a file that isn't sound.
-use Rattle.std.specs.Prelude.{◌≡◌, ◌≤◌, ◌<◌, ℕ, Bool, true, false, List, Option, None, slice_index, if◌then◌else◌}
+use Rattle.std.specs.Prelude.{◌≡◌, ◌≤◌, ◌<◌, ℕ, Bool, true, false, Option, None, if◌then◌else◌}
 use Rattle.type_model.specs.Module.{Module, row_count}
-use Rattle.type_model.specs.Rows.{type_defs, encloser}
+use Rattle.type_model.specs.Rows.{type_defs}
 use Rattle.type_model.specs.Part.{is_sound_type, field_value}
 use Rattle.type_model.specs.Types.{is_instance}
 
@@ -24,7 +24,3 @@ pub record FailsFirst (fails : ℕ → Bool) (n at : ℕ) : Type 0 where
   pub from : 1 ≤ at
   pub before : (t : ℕ) → 1 ≤ t → t < at → fails t ≡ false
   pub here : at ≤ n → fails at ≡ true
-
--- which type encloses each type of the file, by their rows
-abbrev pub TellsEnclosers : Module → List ℕ → Type 0
-TellsEnclosers m table = (t : ℕ) → t ≤ row_count m type_defs → slice_index table t ≡ encloser m t

@@ -5,11 +5,10 @@ ghost use Rattle.std.specs.List.{flat_map};
 ghost use Rattle.type_model.specs.Module.{row_count};
 ghost use Rattle.type_model.specs.Rows.{type_defs};
 ghost use Rattle.type_model.specs.Types.{own_fields};
-ghost use Rattle.type_model.specs.Sound.{held_if_own, TellsEnclosers};
+ghost use Rattle.type_model.specs.Sound.{held_if_own};
 ghost use Rattle.type_model.specs.Part.{edge, def_of as file_type_of, base_def, encloser_of, value_def as held_value, field_value, held_by, extends_edges as edges_of_extends, nesting_edges as edges_of_nesting, inside_edges as edges_inside};
 
 use crate::core_types::FIRST_CORE;
-use crate::enclosers::enclosers;
 use crate::model::Types;
 use crate::table_numbers::{FIELDS, TYPE_DEFS};
 use graph_cycles::Edge;
@@ -37,12 +36,10 @@ fn base_of(types: &Types, t: u32) -> Option<u32>
 }
 
 /// The type that encloses one.
-fn enclosing(types: &Types, enclosers: &[u32], t: u32) -> Option<u32>
-    requires enclosers { TellsEnclosers types.now enclosers.now }
-    requires within { t ≤ row_count types.now type_defs }
+fn enclosing(types: &Types, t: u32) -> Option<u32>
     ensures { result ≡ encloser_of types.now t }
 {
-    match enclosers.get(t as usize).copied().unwrap_or(0) {
+    match types.image().encloser(t) {
         0 => None,
         encloser => Some(encloser),
     }
@@ -105,10 +102,9 @@ pub fn nesting_edges(alloc: Global, types: &Types) -> Result<Vec<Edge>, AllocErr
     requires { row_count types.now type_defs < 2 ^ 31 }
     ensures { IfOk result (λ edges. edges.items ≡ edges_of_nesting types.now) }
 {
-    let enclosers = enclosers(alloc, types)?;
     let mut edges = Vec::new(alloc);
     for t in 1..types.image().row_count(TYPE_DEFS) + 1 {
-        push_edge(&mut edges, t, enclosing(types, &enclosers, t))?;
+        push_edge(&mut edges, t, enclosing(types, t))?;
     }
     Ok(edges)
 }

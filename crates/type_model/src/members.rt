@@ -10,10 +10,7 @@ ghost use Rattle.type_model.specs.MemberViews.{view_method, view_import, view_fi
 use crate::core_types::{FIRST_CORE, core_type};
 use crate::model::Types;
 use crate::table::Row;
-use crate::table_numbers::{
-    CLASS_LAYOUTS, FIELD_LAYOUTS, FIELD_MARSHALS, FIELD_RVAS, FIELDS, IMPL_MAPS, METHOD_DEFS,
-    MODULE_REFS, PARAMS, TYPE_DEFS,
-};
+use crate::table_numbers::{FIELDS, METHOD_DEFS, MODULE_REFS, PARAMS, TYPE_DEFS};
 use managed_value::TypeId;
 use marshal_spec::{Spec, SpecBad, read_spec};
 use sig_reader::{Sig, TypeSig};
@@ -99,7 +96,7 @@ impl Types {
         }
         let image = self.image();
         Some(MethodRow {
-            owner: image.owner(5, n),
+            owner: image.owner_of_method(n),
             flags: image.cell(METHOD_DEFS, u64::from(n), 2),
             impl_flags: image.cell(METHOD_DEFS, u64::from(n), 1),
             name: image.text(image.cell(METHOD_DEFS, u64::from(n), 3)),
@@ -112,9 +109,7 @@ impl Types {
     pub fn import_of(&self, method: u32) -> Option<Import<'_>>
         ensures { option_map view_import result ≡ definition.import_of self.now method }
     {
-        let row = self
-            .image()
-            .first_with(IMPL_MAPS, 1, 2 * u64::from(method) + 1)?;
+        let row = self.image().forwarding_row(2 * u64::from(method) + 1)?;
         Some(Import {
             method,
             module: self.library_name(row[3]),
@@ -172,7 +167,7 @@ impl Types {
     fn marshalled_by(&self, parent: u64) -> Marshalled
         ensures { view_marshalled result ≡ definition.marshalled_by self.now parent }
     {
-        match self.image().first_with(FIELD_MARSHALS, 0, parent) {
+        match self.image().marshal_row(parent) {
             Some(row) => spec_in(self.image().blob(row[1])),
             None => Marshalled::Nothing,
         }
@@ -188,7 +183,7 @@ impl Types {
         }
         Some(FieldRow {
             row: n,
-            owner: self.image().owner(4, n),
+            owner: self.image().owner_of_field(n),
             flags: self.image().cell(FIELDS, u64::from(n), 0),
             sig: self.field_sig(n),
             offset: self.offset_of(n),
@@ -200,7 +195,7 @@ impl Types {
     fn offset_of(&self, n: u32) -> Option<u32>
         ensures { result ≡ definition.offset_of self.now n }
     {
-        let row = self.image().first_with(FIELD_LAYOUTS, 1, u64::from(n))?;
+        let row = self.image().field_layout_row(n)?;
         Some(row[0])
     }
 
@@ -236,7 +231,7 @@ impl Types {
         ensures { view_type_row result ≡ definition.type_row_of self.now t }
     {
         let image = self.image();
-        let layout = image.first_with(CLASS_LAYOUTS, 2, u64::from(t));
+        let layout = image.class_layout_row(t);
         TypeRow {
             flags: image.cell(TYPE_DEFS, u64::from(t), 0),
             extends: self.extends_of(TypeId { base: t, arrays: 0 }),
@@ -266,7 +261,7 @@ impl Types {
     pub fn field_bytes(&self, field: u32, len: u32) -> Option<&[u8]>
         ensures { option_copied result ≡ definition.field_bytes self.now field len }
     {
-        let row = self.image().first_with(FIELD_RVAS, 1, u64::from(field))?;
+        let row = self.image().field_rva_row(field)?;
         self.image().bytes_at(row[0], len)
     }
 }

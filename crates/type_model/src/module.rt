@@ -1,16 +1,21 @@
 //! An assembly as its types are read from it: a copy of the file, of its heaps and of its rows.
 
-ghost use Rattle.std.specs.Prelude.{◌≡◌, ◌<◌, ◌≤◌, ◌+◌, ◌-◌, ◌^◌, ◌==◌, find, slice_index, length, IfOk};
+ghost use Rattle.std.specs.Prelude.{◌≡◌, ◌<◌, ◌≤◌, ◌+◌, ◌-◌, ◌^◌, ◌==◌, ℕ, find, slice_index, length, IfOk};
 ghost use Rattle.pe_reader.specs.Pe.{headers_of};
 ghost use Rattle.std.specs.Option.{option_copied};
 ghost use Rattle.byte_view.specs.Headers.{bytes_at as bytes_of_range, bytes_from};
 ghost use Rattle.type_model.specs.Module.{module_of, rows as rows_in, row as row_of, cell as cell_of, first_with as first_row_with, row_count as rows_of, text as text_of, blob as blob_of};
-ghost use Rattle.type_model.specs.Rows.{run_end as end_of_run, owner as owner_of, encloser as encloser_of};
+ghost use Rattle.type_model.specs.Rows.{run_end as end_of_run, field_marshals, class_layouts, field_layouts, impl_maps, field_rvas, encloser as encloser_of, owner_of_field as field_owner, owner_of_method as method_owner};
+ghost use Rattle.type_model.specs.FirstRows.{TellsFirst};
 ghost use Rattle.type_model.specs.TypeIds.{is_row as is_row_of};
 
 use crate::copies::{copy, copy_headers, copy_tables};
-use crate::table::{Row, Table};
-use crate::table_numbers::{NESTED_CLASSES, ROW_LIMIT, TYPE_DEFS};
+use crate::first_rows::{FirstRows, counts_not_above, first_rows, number_at};
+use crate::table::{Row, Table, rows_of};
+use crate::table_numbers::{
+    CLASS_LAYOUTS, FIELD_LAYOUTS, FIELD_MARSHALS, FIELD_RVAS, IMPL_MAPS, NESTED_CLASSES, ROW_LIMIT,
+    TYPE_DEFS,
+};
 use bound_base::{Bytes, Items, NoMemory};
 use meta_tables::{Meta, entry_at, text_at};
 use pe_reader::{Pe, at_rva, rest_at};
@@ -26,10 +31,15 @@ pub struct Module {
     user_strings: Bytes,
     blobs: Bytes,
     tables: Items<Table>,
+    firsts: FirstRows,
+    /// How many runs of fields, and of methods, begin at a row or before.
+    field_owners: Items<u32>,
+    method_owners: Items<u32>,
 }
 
 impl Model for Module {
     ghost use Rattle.type_model.specs.Module.{Module as ModuleValue};
+    ghost use Rattle.type_model.specs.HeldRows.{HoldsFirstRows, HoldsOwners};
     ghost use Rattle.pe_reader.specs.Pe.{headers_of};
 
     ghost Value = { ModuleValue };
@@ -42,6 +52,9 @@ impl Model for Module {
       blobs = m.blobs;
       tables = m.tables;
     } };
+
+    ghost invariant = { λ m.
+        HoldsFirstRows m.tables m.firsts × HoldsOwners m.tables m.field_owners m.method_owners };
 }
 
 impl Module {
@@ -49,13 +62,20 @@ impl Module {
     pub fn of(alloc: Global, bytes: &[u8], pe: &Pe, meta: &Meta<'_>) -> Result<Module, NoMemory>
         ensures { IfOk result (λ m. m ≡ module_of bytes.now (headers_of pe.now) meta.now) }
     {
+        let tables = copy_tables(alloc, meta)?;
+        let firsts = first_rows(alloc, &tables)?;
+        let field_owners = counts_not_above(alloc, rows_of(&tables, TYPE_DEFS), 4)?;
+        let method_owners = counts_not_above(alloc, rows_of(&tables, TYPE_DEFS), 5)?;
         Ok(Module {
             file: copy(alloc, bytes)?,
             pe: copy_headers(alloc, pe)?,
             strings: copy(alloc, meta.string_heap())?,
             user_strings: copy(alloc, meta.user_string_heap())?,
             blobs: copy(alloc, meta.blob_heap())?,
-            tables: copy_tables(alloc, meta)?,
+            tables,
+            firsts,
+            field_owners,
+            method_owners,
         })
     }
 
@@ -78,10 +98,7 @@ impl Module {
         ensures rows { result.now ≡ rows_in self.now table }
         ensures few { length result.now < 2 ^ 32 }
     {
-        match self.tables.get(table as usize) {
-            Some(table) => table.rows(),
-            None => &[],
-        }
+        rows_of(&self.tables, table)
     }
 
     /// How many rows a table has.
@@ -113,25 +130,59 @@ impl Module {
         }
     }
 
-    /// The first row that has a number in a column.
-    #[tactic(auto, unfolding(crate::specs::Module::first_with))]
-    pub fn first_with(&self, table: u8, column: usize, value: u64) -> Option<&Row>
-        requires { column < 9 }
-        ensures { option_copied result ≡ first_row_with self.now table column value }
+    /// The first row of FieldMarshal that describes a field or a parameter, by its coded index.
+    pub fn marshal_row(&self, parent: u64) -> Option<&Row>
+        ensures { option_copied result ≡ first_row_with self.now field_marshals 0 parent }
     {
-        self.rows(table)
-            .iter()
-            .find(|row| u64::from(row[column]) == value)
+        self.row_by(&self.firsts.field_marshals, FIELD_MARSHALS, parent)
+    }
+
+    /// The first row of ClassLayout of a type.
+    pub fn class_layout_row(&self, t: u32) -> Option<&Row>
+        ensures { option_copied result ≡ first_row_with self.now class_layouts 2 t }
+    {
+        self.row_by(&self.firsts.class_layouts, CLASS_LAYOUTS, u64::from(t))
+    }
+
+    /// The first row of FieldLayout of a field.
+    pub fn field_layout_row(&self, f: u32) -> Option<&Row>
+        ensures { option_copied result ≡ first_row_with self.now field_layouts 1 f }
+    {
+        self.row_by(&self.firsts.field_layouts, FIELD_LAYOUTS, u64::from(f))
+    }
+
+    /// The first row of ImplMap that forwards a method, by its coded index.
+    pub fn forwarding_row(&self, member: u64) -> Option<&Row>
+        ensures { option_copied result ≡ first_row_with self.now impl_maps 1 member }
+    {
+        self.row_by(&self.firsts.impl_maps, IMPL_MAPS, member)
+    }
+
+    /// The first row of FieldRVA of a field.
+    pub fn field_rva_row(&self, f: u32) -> Option<&Row>
+        ensures { option_copied result ≡ first_row_with self.now field_rvas 1 f }
+    {
+        self.row_by(&self.firsts.field_rvas, FIELD_RVAS, u64::from(f))
     }
 
     /// The type that encloses a nested one, by the first row of NestedClass that names it; 0 for a type that isn't nested.
     pub fn encloser(&self, t: u32) -> u32
         ensures { result ≡ encloser_of self.now t }
     {
-        match self.first_with(NESTED_CLASSES, 0, u64::from(t)) {
+        match self.row_by(&self.firsts.nested_classes, NESTED_CLASSES, u64::from(t)) {
             Some(row) => row[1],
             None => 0,
         }
+    }
+
+    /// The first row of a table that has a value in a column, by what is kept of that column.
+    #[tactic(auto, using(crate::proofs::RowsByNumber::first_found))]
+    fn row_by(&self, firsts: &Items<u32>, table: u8, value: u64) -> Option<&Row>
+        ensures { (column : ℕ) → TellsFirst (rows_in self.now table) column firsts.now
+            → option_copied result ≡ first_row_with self.now table column value }
+    {
+        let number = number_at(firsts, value, 0);
+        self.row(table, u64::from(number))
     }
 
     /// Whether a token may name a row of a table: one that is there, and has 24 bits.
@@ -155,16 +206,20 @@ impl Module {
         }
     }
 
-    /// The row of TypeDef whose run, by its column, has a row; 0 for a row before the first run.
+    /// The row of TypeDef whose run of fields has a row; 0 for a row before the first run.
     #[tactic(auto, unfolding(crate::specs::Rows::owner))]
-    pub fn owner(&self, column: usize, n: u32) -> u32
-        requires { column < 9 }
-        ensures { result ≡ owner_of self.now column n }
+    pub fn owner_of_field(&self, f: u32) -> u32
+        ensures { result ≡ field_owner self.now f }
     {
-        match self.tables.get(TYPE_DEFS as usize) {
-            Some(table) => table.count_not_above(column, n),
-            None => 0,
-        }
+        number_at(&self.field_owners, u64::from(f), self.row_count(TYPE_DEFS))
+    }
+
+    /// The row of TypeDef whose run of methods has a row; 0 for a row before the first run.
+    #[tactic(auto, unfolding(crate::specs::Rows::owner))]
+    pub fn owner_of_method(&self, n: u32) -> u32
+        ensures { result ≡ method_owner self.now n }
+    {
+        number_at(&self.method_owners, u64::from(n), self.row_count(TYPE_DEFS))
     }
 
     /// The text at an offset of `#Strings`, empty where no whole entry is there.

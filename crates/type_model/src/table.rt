@@ -1,7 +1,7 @@
 //! The rows of a table of metadata.
 
-ghost use Rattle.std.specs.Prelude.{◌≡◌, ◌<◌, ◌-◌, ◌^◌, ◌==◌, nat_le, find, count_by, length, slice_index, slice_get, None, if◌then◌else◌};
-ghost use Rattle.std.specs.Option.{option_copied};
+ghost use Rattle.std.specs.Prelude.{◌≡◌, ◌<◌, ◌^◌, length};
+ghost use Rattle.type_model.specs.HeldRows.{table_rows};
 
 use bound_base::Items;
 use std::marker::Model;
@@ -47,20 +47,15 @@ impl Table {
     {
         self.rows.len() as u32
     }
-
-    /// How many rows have a number in a column that isn't above another.
-    pub fn count_not_above(&self, column: usize, n: u32) -> u32
-        requires { column < 9 }
-        ensures { result ≡ count_by (λ numbers. nat_le (slice_index numbers column) n) self.now }
-    {
-        let count = count_not_above(self.rows.as_slice(), column, n);
-        count as u32
-    }
 }
 
-fn count_not_above(rows: &[Row], column: usize, n: u32) -> usize
-    requires { column < 9 }
-    ensures { result ≡ count_by (λ numbers. nat_le (slice_index numbers column) n) rows.now }
+/// The rows of a table, by its number; none where it isn't there.
+pub fn rows_of(tables: &Items<Table>, table: u8) -> &[Row]
+    ensures rows { result.now ≡ table_rows tables.now table }
+    ensures few { length result.now < 2 ^ 32 }
 {
-    rows.iter().filter(|row| row[column] <= n).count()
+    match tables.get(table as usize) {
+        Some(table) => table.rows(),
+        None => &[],
+    }
 }
