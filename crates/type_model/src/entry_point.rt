@@ -1,9 +1,9 @@
 //! The method that a run begins with (ECMA-335 II.15.4.1.2).
 
-ghost use Rattle.std.specs.Prelude.{◌≡◌};
+ghost use Rattle.std.specs.Prelude.{◌≡◌, ◌+◌, ◌^◌, ◌≤◌};
 ghost use Rattle.std.specs.Option.{option_copied};
 ghost use Rattle.bound_base.specs.Image.{refusal};
-ghost use Rattle.byte_view.specs.Reading.{Reads};
+ghost use Rattle.byte_view.specs.Reading.{Reads, WantsMemory};
 ghost use Rattle.type_model.specs.EntryPoint as definition;
 
 use crate::core_types::{INT32, STRING, VOID, core_id};
@@ -19,7 +19,8 @@ impl Types {
     /// gives nothing or an int. A file with another is refused at its token in the CLI header, which only a run asks.
     #[tactic(auto, unfolding(crate::specs::EntryPoint::entry))]
     pub fn entry(&self) -> Result<u32, BadImage>
-        ensures { Reads refusal (λ n. n) result (definition.entry self.now) }
+        ensures reads { Reads refusal (λ n. n) result (definition.entry self.now) }
+        ensures memory { WantsMemory refusal result → 2 ^ 64 ≤ self.now.headers.cli_at + 20 }
     {
         let token = self.image().entry_token();
         let n = token % ROW_LIMIT;

@@ -64,11 +64,7 @@ fn first_by(alloc: Global, rows: &[Row], column: usize) -> Result<Items<u32>, No
 pub fn number_at(numbers: &Items<u32>, at: u64, past: u32) -> u32
     ensures { result ≡ slice_index_or numbers.now at past }
 {
-    numbers
-        .as_slice()
-        .get(at as usize)
-        .copied()
-        .unwrap_or(past)
+    numbers.as_slice().get(at as usize).copied().unwrap_or(past)
 }
 
 /// How many of the rows have a number in a column that isn't above a value, for each value up to the highest number.
