@@ -12,5 +12,6 @@ pub mod Receiving
 pub mod Rising
 pub mod Rowless
 pub mod ShapesMade
+pub mod SigSteps
 pub mod Sizes
 pub mod Stepping

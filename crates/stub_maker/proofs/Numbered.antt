@@ -1,5 +1,5 @@
 -- Lists of which each element is numbered.
-use Rattle.std.proofs.Common.{◌≡◌, ℕ, suc, ◌+◌, ◌<◌, List, [], ◌∷◌, ◌++◌, map, length, take, get_or, sym, ap, ◌∙◌, arith}
+use Rattle.std.proofs.Common.{◌≡◌, ℕ, zero, suc, refl, ◌+◌, ◌<◌, List, [], ◌∷◌, ◌++◌, map, length, take, get_or, sym, ap, ◌∙◌, arith}
 use Rattle.std.specs.List.{enumerate_from}
 use Rattle.std.proofs.lemmas.List.{take_more, length-take}
 
@@ -16,3 +16,15 @@ module _ {A B : Type 0} (f : ℕ × A → B) where
       ap (λ (l : List A). map f (enumerate_from 1 l)) (take_more xs i x within ∙ ap (λ (y : A). take i xs ++ y ∷ []) (sym is))
       ∙ numbered_more 1 (take i xs) x
       ∙ ap (λ (k : ℕ). map f (enumerate_from 1 (take i xs)) ++ f (k, x) ∷ []) (omega (arith, length-take i xs))
+
+  -- as many as there are elements
+  pub numbered_length : (n : ℕ) (xs : List A) → length (map f (enumerate_from n xs)) ≡ length xs
+  numbered_length n [] = refl
+  numbered_length n (y ∷ ys) = ap suc (numbered_length (n + 1) ys)
+
+  -- the element at a place
+  pub numbered_at : (n : ℕ) (xs : List A) (i : ℕ) (x : A) (d : B) → i < length xs → x ≡ get_or xs i x → get_or (map f (enumerate_from n xs)) i d ≡ f (n + i, x)
+  numbered_at n [] i x d within is = absurd (omega (arith, within))
+  numbered_at n (y ∷ ys) zero x d within is = ap (λ (k : ℕ). f (k, y)) (omega arith) ∙ ap (λ (z : A). f (n + 0, z)) (sym is)
+  numbered_at n (y ∷ ys) (suc i) x d within is =
+      numbered_at (n + 1) ys i x d (omega (arith, within)) is ∙ ap (λ (k : ℕ). f (k, x)) (omega arith)

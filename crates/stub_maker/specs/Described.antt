@@ -129,12 +129,16 @@ is_void m sig = unwrap_or (option_map (same_type (core_id core.void_place)) (typ
 abbrev pub passed_result : Module → ℕ → TypeSig → Option Passed
 passed_result m n sig = if is_void m sig then None else Some (passed_at m n 0 sig)
 
+-- the parameters of a method
+abbrev pub passed_params : Module → ℕ → List TypeSig → List Passed
+passed_params m n sigs = map (λ numbered. passed_at m n numbered.0 numbered.1) (enumerate_from 1 sigs)
+
 -- a method's signature
 abbrev pub signature_by : Module → ℕ → Sig → Signature
 signature_by m n sig = record {
   vararg = (out-Sig sig).vararg;
   generic = (out-Sig sig).generic;
-  params = map (λ numbered. passed_at m n numbered.0 numbered.1) (enumerate_from 1 (out-Sig sig).params);
+  params = passed_params m n (out-Sig sig).params;
   result = passed_result m n (out-Sig sig).result;
 }
 

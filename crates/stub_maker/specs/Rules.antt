@@ -187,11 +187,15 @@ stub_by saves_error steps result_way = record {
   errno = saves_error;
 }
 
-abbrev pub stub_of_signature : Known → Imported → Signature → Result Stub Refused
-stub_of_signature known i s =
+-- the stub of what is passed, by the charset and by whether the native error number is saved
+abbrev pub stub_of_passed : Known → Bool → Bool → Signature → Result Stub Refused
+stub_of_passed known unicode saves_error s =
     and_then
-    (λ steps. map_ok (stub_by i.saves_error steps) (refused_at TheResult (returned known i.unicode column.Returned s.result)))
-    (each_from (step_of known i.unicode) 0 s.params)
+    (λ steps. map_ok (stub_by saves_error steps) (refused_at TheResult (returned known unicode column.Returned s.result)))
+    (each_from (step_of known unicode) 0 s.params)
+
+abbrev pub stub_of_signature : Known → Imported → Signature → Result Stub Refused
+stub_of_signature known i s = stub_of_passed known i.unicode i.saves_error s
 
 abbrev pub stub_by_signature : Known → Imported → Option Signature → Result Stub Refused
 stub_by_signature known i None = whole why.Type0

@@ -11,10 +11,10 @@ use crate::bare_shapes::bare_shape;
 use crate::entries::ShapedTypes;
 use crate::facts::invoke_signature;
 use crate::file_types::FileTypes;
-use crate::imports::{outside_as_whole, stub_of};
+use crate::import_stubs::stub_of_method;
+use crate::imports::outside_as_whole;
 use crate::kinds_of_types::{Kinds, type_kind};
 use crate::refused::{StubBad, Why};
-use crate::signatures::imported;
 use crate::stub::{Back, Stub};
 use managed_value::TypeId;
 use native_layout::Shape;
@@ -57,9 +57,9 @@ fn stub_by<K: ShapedTypes>(
     ensures stub { IsReturned result (stub_of_import types.now (view_import import.now)) }
     ensures sized { IfOk result IsSizedStub }
 {
-    match imported(alloc, types, kinds, import)? {
+    match types.method(import.method) {
         None => Err(outside_as_whole(Why::Type0)),
-        Some(imported) => stub_of(alloc, known, &imported),
+        Some(method) => stub_of_method(alloc, types, kinds, known, import, &method),
     }
 }
 

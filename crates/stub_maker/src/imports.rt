@@ -1,16 +1,18 @@
 //! The stub of an import.
 
-ghost use Rattle.std.specs.Prelude.{◌≡◌};
+ghost use Rattle.std.specs.Prelude.{◌≡◌, All, IfOk};
 ghost use Rattle.stub_maker.specs.Crossing.{IsReturned};
-ghost use Rattle.stub_maker.specs.Rules.{is_plain_signature as spec_is_plain, stub_of as spec_stub_of, stub_of_signature as spec_stub_of_signature};
+ghost use Rattle.stub_maker.specs.Rules.{is_plain_signature as spec_is_plain, stub_by, stub_of as spec_stub_of, stub_of_signature as spec_stub_of_signature};
+ghost use Rattle.stub_maker.specs.Sized.{IsSizedStep};
 
 use crate::crossing::returned;
 use crate::entries::ShapedTypes;
 use crate::refused::{Param, StubBad, Why};
 use crate::signature::{Imported, Signature};
 use crate::steps::{ended, read_back, steps_of};
-use crate::stub::Stub;
+use crate::stub::{Res, Steps, Stub};
 use crate::table::Column;
+use bound_base::NoMemory;
 use std::alloc::Global;
 
 /// Whether a signature can be passed at all: it has a fixed number of parameters, and isn't generic.
@@ -66,13 +68,26 @@ fn stub_of_signature<K: ShapedTypes>(
         Column::Returned,
         signature.result,
     )?;
+    Ok(stub_with(alloc, steps, result, import.saves_error)?)
+}
+
+/// The stub of these steps and this way in which the result is returned.
+pub fn stub_with(
+    alloc: Global,
+    steps: Steps,
+    returned: Res,
+    saves_error: bool,
+) -> Result<Stub, NoMemory>
+    requires { All IsSizedStep steps }
+    ensures { IfOk result (λ stub. stub ≡ stub_by saves_error steps returned) }
+{
     let back = read_back(alloc, steps.as_slice())?;
     let ends = ended(alloc, steps.as_slice())?;
     Ok(Stub {
         steps,
         back,
         ends,
-        result,
-        errno: import.saves_error,
+        result: returned,
+        errno: saves_error,
     })
 }

@@ -13,6 +13,7 @@ mod file_types;
 mod finding;
 mod form_outlines;
 mod forms;
+mod import_stubs;
 mod imports;
 mod kinds;
 mod kinds_of_types;

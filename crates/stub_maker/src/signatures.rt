@@ -110,7 +110,7 @@ fn passed_params(
 }
 
 /// The place of a parameter, by its index. No memory holds more parameters than 32 bits count.
-fn place_of(index: usize) -> Result<u32, NoMemory>
+pub fn place_of(index: usize) -> Result<u32, NoMemory>
     ensures { IfOk result (λ place. place ≡ index + 1) }
 {
     if index < u32::MAX as usize {
@@ -121,7 +121,7 @@ fn place_of(index: usize) -> Result<u32, NoMemory>
 }
 
 /// A method's result; None where it is Void.
-fn passed_result(types: &Types, kinds: &Kinds, method: u32, sig: &TypeSig) -> Option<Passed>
+pub fn passed_result(types: &Types, kinds: &Kinds, method: u32, sig: &TypeSig) -> Option<Passed>
     requires { AreKinds types.now kinds.now }
     ensures { result ≡ spec_passed_result types.now method sig.now }
 {
