@@ -1,15 +1,14 @@
 -- Whether callbacks cross, by what is found of their parameters and results.
-use Rattle.std.proofs.Common.{◌≡◌, ℕ, ◌+◌, ◌<◌, Bool, true, false, List, [], ◌∷◌, length, take, get_or, Result, Ok, Err, is_ok, cond, refl, sym, ap, subst, ◌∙◌}
+use Rattle.std.proofs.Common.{◌≡◌, ℕ, ◌+◌, ◌<◌, Bool, true, false, List, length, take, get_or, Result, Ok, Err, is_ok, cond, refl, sym, ap, subst, ◌∙◌}
 use Rattle.stub_maker.specs.declared.kinds.Passed.{Passed}
 use Rattle.stub_maker.specs.declared.entries.Found.{Found}
 use Rattle.stub_maker.specs.declared.crossing.MarkedEntry.{MarkedEntry}
 use Rattle.stub_maker.specs.declared.table.Cell.{Cell}
 use Rattle.stub_maker.specs.declared.refused.Why.{Why}
 use Rattle.stub_maker.specs.declared.refused.Why.TheVariants as why
-use Rattle.stub_maker.specs.declared.refused.Param.{Param}
 use Rattle.stub_maker.specs.Answers.{and_then, map_ok}
 use Rattle.stub_maker.specs.Shapes.{Entry, Known}
-use Rattle.stub_maker.specs.Rules.{Marked, Refused, each_from}
+use Rattle.stub_maker.specs.Rules.{Marked, each_from}
 use Rattle.stub_maker.specs.Callbacks.{length_is_there, marked_of, received_of, with_length}
 use Rattle.stub_maker.specs.Crossing.{IsChosen, IsLaid, IsMarked}
 use Rattle.stub_maker.proofs.Stepping.{step_stopped, step_taken}

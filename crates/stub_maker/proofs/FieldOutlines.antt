@@ -1,15 +1,12 @@
 -- Outlines of fields, one after another.
-use Rattle.std.proofs.Common.{◌≡◌, ℕ, suc, ◌+◌, ◌<◌, ◌≤◌, List, [], ◌∷◌, ◌++◌, map, drop, drop-cons, length, get_or, append_assoc, Option, Some, None, arith, refl, sym, ◌∙◌, ap, subst}
+use Rattle.std.proofs.Common.{◌≡◌, ℕ, suc, ◌+◌, ◌<◌, List, [], ◌∷◌, ◌++◌, map, drop, drop-cons, length, get_or, append_assoc, Option, Some, None, arith, refl, sym, ◌∙◌, ap}
 use Rattle.std.specs.Option.{option_map}
-use Rattle.std.proofs.lemmas.List.{append-nil, drop_all}
 use Rattle.native_layout.specs.declared.outlines.Outline.{Outline}
-use Rattle.native_layout.specs.declared.shapes.Shape.{Shape, Struct}
-use Rattle.native_layout.specs.Outlines.{OutlinesStruct, outline}
+use Rattle.native_layout.specs.declared.shapes.Shape.{Shape}
+use Rattle.native_layout.specs.Outlines.{outline}
 use Rattle.stub_maker.specs.declared.facts.FieldFacts.{FieldFacts}
-use Rattle.stub_maker.specs.declared.facts.StructFacts.{StructFacts}
-use Rattle.stub_maker.specs.Facts.{all_some, field_shape, struct_shape}
+use Rattle.stub_maker.specs.Facts.{all_some, field_shape}
 use Rattle.stub_maker.specs.Shapes.{Known}
-use Rattle.stub_maker.specs.Learned.{outline_of}
 
 -- the outlines of the fields from one on, after those that are there
 abbrev pub outlines_after : Known → List Outline → List FieldFacts → Option (List Outline)

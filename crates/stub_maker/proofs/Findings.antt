@@ -1,7 +1,7 @@
 -- What is found of a file's types: it stays right, and once nothing more is found it is all that is known.
 use Rattle.std.proofs.Common.{◌≡◌, ◌≢◌, ℕ, zero, suc, ◌+◌, ◌≤◌, ◌<◌, Bool, true, false, cond, List, [], ◌∷◌, length, get_or, set, Option, Some, None, slice_get, unwrap_or, IfSome, is_some, is_ok, nat_eq, nat_le, nat_lt, ◌&&◌, replicate, ◌-◌, if◌then◌else◌, ◌⊎◌, inl, inr, arith, refl, sym, ◌∙◌, ap, subst, get_or-set_same, get_or-set_other}
-use Rattle.std.specs.Option.{option_and_then, option_map}
-use Rattle.std.specs.List.{count_by, sum_by}
+use Rattle.std.specs.Option.{option_and_then}
+use Rattle.std.specs.List.{count_by}
 use Rattle.std.proofs.lemmas.List.Sums.{count_by-le-length, sum_by-cons}
 use Rattle.std.proofs.lemmas.Bool.Decides.{nat_tests}
 use Rattle.std.proofs.lemmas.List.{length-replicate, length-set}

@@ -1,5 +1,5 @@
 -- The entry of a field is that of its own row: an array's is of one in place.
-use Rattle.std.proofs.Common.{◌≡◌, ℕ, Bool, true, nat_le, Option, Some, None, refl, sym, ap, subst, ◌∙◌}
+use Rattle.std.proofs.Common.{◌≡◌, ℕ, Bool, true, nat_le, Option, Some, None, refl, sym, ap, subst}
 use Rattle.std.specs.Option.{option_and_then, option_map}
 use Rattle.native_layout.specs.declared.shapes.Shape as shape
 use Rattle.native_layout.specs.declared.shapes.Shape.{Shape}

@@ -1,3 +1,5 @@
+pub mod Alike
+pub mod BackSizes
 pub mod Calling
 pub mod Computed
 pub mod FieldOutlines

@@ -1,11 +1,10 @@
 -- What more is known keeps what is answered already: where one knowledge is within another, each entry, shape and callback that the
 -- first one has is that of the second one.
-use Rattle.std.proofs.Common.{◌≡◌, ◌≢◌, ℕ, ◌+◌, Bool, true, false, List, [], ◌∷◌, map, Option, Some, None, Result, Ok, Err, is_ok, nat_le, cond, refl, sym, ap, subst, ◌∙◌}
+use Rattle.std.proofs.Common.{◌≡◌, ◌≢◌, ℕ, ◌+◌, Bool, true, false, List, [], ◌∷◌, map, Option, Some, None, Result, Ok, Err, is_ok, nat_le, cond, refl, sym, ap, ◌∙◌}
 use Rattle.std.specs.Option.{option_and_then, option_map}
 use Rattle.native_layout.specs.declared.shapes.Shape as shape
 use Rattle.native_layout.specs.declared.shapes.Shape.{Shape}
 use Rattle.native_layout.specs.declared.shapes.StructShape.{StructShape}
-use Rattle.native_layout.specs.Shapes.{flat}
 use Rattle.marshal_spec.specs.declared.spec.Spec.TheVariants.{Plain, ByValText, ByValArray, LpArray}
 use Rattle.stub_maker.specs.declared.kinds.Kind.{Kind}
 use Rattle.stub_maker.specs.declared.kinds.TypeKind.{TypeKind}
@@ -40,7 +39,6 @@ use Rattle.stub_maker.specs.Callbacks.{back_by, back_of, back_of_signature, mark
 use Rattle.stub_maker.specs.Facts.{TypeFacts, all_some, field_shape, struct_shape}
 use Rattle.stub_maker.proofs.InField.{field_entry}
 use Rattle.stub_maker.proofs.OneRow.{the_array, the_entry}
-use Rattle.stub_maker.proofs.Orderly.{and_then_ok, map_ok_ok, refused_at_ok}
 
 -- ---- answers that are kept
 

@@ -1,5 +1,5 @@
 -- The parameters of a callback, one more at a time, in two lists.
-use Rattle.std.proofs.Common.{◌≡◌, ℕ, ◌+◌, ◌<◌, List, [], ◌∷◌, ◌++◌, map, length, take, get_or, Some, Result, Ok, Err, refl, sym, ap, ◌∙◌}
+use Rattle.std.proofs.Common.{◌≡◌, ℕ, ◌+◌, ◌<◌, List, [], ◌∷◌, ◌++◌, length, take, get_or, Some, Result, Ok, Err, refl, sym, ap, ◌∙◌}
 use Rattle.native_layout.specs.declared.shapes.Shape.{Shape}
 use Rattle.stub_maker.specs.declared.backs.ReceivedMark.{ReceivedMark}
 use Rattle.stub_maker.specs.declared.backs.ReceivedParams.{ReceivedParams}
@@ -14,7 +14,7 @@ use Rattle.stub_maker.specs.declared.refused.StubBad.TheVariants.{Outside, Memor
 use Rattle.stub_maker.specs.declared.refused.Why.{Why}
 use Rattle.stub_maker.specs.Answers.{map_ok}
 use Rattle.stub_maker.specs.Shapes.{Known, shape_of_form}
-use Rattle.stub_maker.specs.Rules.{Marked, Refused, each_from}
+use Rattle.stub_maker.specs.Rules.{Marked, each_from}
 use Rattle.stub_maker.specs.Callbacks.{in_lists, received_by}
 use Rattle.stub_maker.specs.Crossing.{IsMarked, IsReturned, IsStep}
 use Rattle.stub_maker.proofs.Orderly.{map_ok_ok}

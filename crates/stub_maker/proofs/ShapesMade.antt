@@ -1,5 +1,5 @@
 -- Shapes that are made field by field.
-use Rattle.std.proofs.Common.{◌≡◌, ℕ, zero, suc, ◌+◌, ◌<◌, ◌≤◌, Bool, true, List, [], ◌∷◌, ◌++◌, map, drop, drop-cons, length, get_or, append_assoc, Option, Some, None, is_some, arith, refl, sym, ◌∙◌, ap, subst}
+use Rattle.std.proofs.Common.{◌≡◌, ℕ, zero, suc, ◌+◌, ◌<◌, true, List, [], ◌∷◌, ◌++◌, map, drop, drop-cons, length, get_or, append_assoc, Option, Some, None, is_some, arith, refl, sym, ◌∙◌, ap}
 use Rattle.std.specs.Option.{option_and_then, option_map}
 use Rattle.native_layout.specs.declared.shapes.Shape.{Shape, Struct}
 use Rattle.native_layout.specs.declared.shapes.StructShape.{StructShape}

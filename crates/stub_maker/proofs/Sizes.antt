@@ -1,7 +1,6 @@
 -- What the rule over the table answers can be printed: its shapes are in order and laid out, and their sizes have 64 bits.
-use Rattle.std.proofs.Common.{◌≡◌, ◌≢◌, ◌⊎◌, inl, inr, ℕ, ◌+◌, ◌<◌, ◌≤◌, ◌^◌, ◌==◌, Bool, true, false, not, cond, ◌&&◌, List, [], ◌∷◌, map, length, Option, Some, None, is_none, Result, Ok, Err, IfOk, IsTrue, All, nat_lt, nat_le, refl, sym, ap, subst, rules, arith, ◌∙◌}
+use Rattle.std.proofs.Common.{◌≡◌, ◌≢◌, ◌⊎◌, inl, inr, ℕ, ◌+◌, ◌<◌, ◌≤◌, ◌^◌, ◌==◌, Bool, true, false, not, cond, ◌&&◌, List, [], ◌∷◌, length, Option, Some, None, is_none, Result, Ok, Err, IfOk, All, nat_lt, nat_le, refl, sym, ap, subst, rules, arith, ◌∙◌}
 use Rattle.std.specs.List.{position}
-use Rattle.std.specs.Option.{option_and_then, option_map}
 use Rattle.std.proofs.lemmas.Bool.Decides.{nat_tests}
 use Rattle.std.proofs.lemmas.List.Elements.{All-cons, All-nil}
 use Rattle.native_layout.specs.declared.shapes.Enc.{Enc}
@@ -11,7 +10,7 @@ use Rattle.native_layout.specs.declared.shapes.StructShape.{StructShape}
 use Rattle.native_layout.specs.Struct.{Measure, Struct, broken, broken_where, first_some, is_packing, largest, overlap_of, struct_measure, struct_size, written}
 use Rattle.native_layout.specs.Shapes.{flat, measure, measured, nesting, parts_of, scalar}
 use Rattle.native_layout.proofs.Folds.{measure_struct}
-use Rattle.marshal_spec.specs.declared.spec.Spec.TheVariants.{Plain, ByValText, ByValArray, LpArray}
+use Rattle.marshal_spec.specs.declared.spec.Spec.TheVariants.{LpArray}
 use Rattle.stub_maker.specs.declared.kinds.Width.{Width}
 use Rattle.stub_maker.specs.declared.kinds.Width.TheVariants.{One as Narrow, Two, Four, Eight}
 use Rattle.stub_maker.specs.declared.kinds.Kind.{Kind}
@@ -44,10 +43,10 @@ use Rattle.stub_maker.specs.declared.refused.Why.{Why}
 use Rattle.stub_maker.specs.declared.refused.Why.TheVariants as why
 use Rattle.stub_maker.specs.Answers.{and_then, map_ok}
 use Rattle.stub_maker.specs.Table.{cell_at, rows}
-use Rattle.stub_maker.specs.Forms.{bool_width_by, bytes, char_width_by, encoding_by, encoding_of, form_by, is_plain, sign_by, when}
+use Rattle.stub_maker.specs.Forms.{bool_width_by, bytes, char_width_by, encoding_by, form_by, is_plain, sign_by}
 use Rattle.stub_maker.specs.Shapes.{Entry, Known, behind_pointer, described, element_by, entry_by, entry_if, first_entry, flat_one, one_by, other_one, shape_by, shape_of_form}
 use Rattle.stub_maker.specs.Extents.{deepest, is_laid_out, most_parts, size}
-use Rattle.stub_maker.specs.Rules.{Marked, Refused, each_from, entry_in, found_entry, is_plain_signature, laid, mark_in, marked, marked_in, refused_at, returned, returned_by, step_by, step_of, stub_by, stub_by_signature, stub_of, stub_of_signature, with_mark}
+use Rattle.stub_maker.specs.Rules.{Marked, each_from, entry_in, found_entry, is_plain_signature, laid, mark_in, marked, marked_in, refused_at, returned, returned_by, step_by, step_of, stub_by, stub_by_signature, stub_of, stub_of_signature, with_mark}
 use Rattle.stub_maker.specs.Sized.{IsInOrder, IsSized, IsSizedResult, IsSizedStep, IsSizedStub}
 use Rattle.stub_maker.specs.InOrder.{entered, entry_in_order, first_in_row, joined_some, mapped_some, when_some}
 use Rattle.stub_maker.proofs.Orderly.{and_then_ok, if_ok, map_ok_ok, refused_at_ok}
@@ -119,14 +118,14 @@ struct_narrow s stands =
     omega arith
 
 -- a form that isn't a text in place
-abbrev not_inline : Form → Bool
+abbrev pub not_inline : Form → Bool
 not_inline (form.InlineText e count) = false
 not_inline _ = true
 
 same_form : (f g : Form) → f ≡ g → not_inline f ≡ true → not_inline g ≡ true
 same_form f g e h = let P : Form → Type 0 = λ x. not_inline x ≡ true in subst P e h
 
-form_in_place : (u : Bool) (r : Row) (k : Kind) (d : Descriptor) (f : Form) → form_by u r k d ≡ Some f → (r ≡ row.InlineTexts) ⊎ (not_inline f ≡ true)
+pub form_in_place : (u : Bool) (r : Row) (k : Kind) (d : Descriptor) (f : Form) → form_by u r k d ≡ Some f → (r ≡ row.InlineTexts) ⊎ (not_inline f ≡ true)
 form_in_place u row.Integers (kind.Integer width signed) d f h =
     let m = mapped_some (form.Int width) (sign_by width signed d) f h in inr (same_form (form.Int width m.value) f m.is refl)
 form_in_place u row.Integers (kind.NativeInteger signed) d f h =
@@ -149,7 +148,7 @@ form_in_place u row.Handles kind.Handle Nothing f h = let same : form.Native tru
 form_in_place u _ _ _ f h = absurd (cc)
 
 -- what stands in place crosses in a field alone
-outside : (o : Option Shape) (e : Entry) → entry_if cell.Outside o ≡ Some e → ⊥
+pub outside : (o : Option Shape) (e : Entry) → entry_if cell.Outside o ≡ Some e → ⊥
 outside None e h = cc
 outside (Some s) e h = cc
 
@@ -178,12 +177,12 @@ left_true : (a b : Bool) → (a && b) ≡ true → a ≡ true
 left_true true b h = refl
 left_true false b h = absurd (cc)
 
-laid_stands : (s : Shape) → is_laid_out s ≡ true → (measure s).stands ≡ true
+pub laid_stands : (s : Shape) → is_laid_out s ≡ true → (measure s).stands ≡ true
 laid_stands s h =
     left_true (measure s).stands (nat_le (nesting s) deepest)
     (left_true ((measure s).stands && nat_le (nesting s) deepest) (nat_le (parts_of s) most_parts) h)
 
-found_some : (known : Known) (u : Bool) (c : Column) (p : Passed) (e : Entry) (o : Option Entry) → found_entry known u c p o ≡ Ok e → o ≡ Some e
+pub found_some : (known : Known) (u : Bool) (c : Column) (p : Passed) (e : Entry) (o : Option Entry) → found_entry known u c p o ≡ Ok e → o ≡ Some e
 found_some known u c p e (Some x) h = let same : x ≡ e = cc in ap Some same
 found_some known u c p e None h = absurd (cc)
 
@@ -191,10 +190,10 @@ laid_by : {A : Type 0} (b : Bool) (v w : A) → cond b (Ok v) (Err why.Layout) �
 laid_by true v w h = (refl, cc)
 laid_by false v w h = absurd (cc)
 
-laid_ok : {A : Type 0} (s : Shape) (v w : A) → laid s v ≡ Ok w → (is_laid_out s ≡ true) × (v ≡ w)
+pub laid_ok : {A : Type 0} (s : Shape) (v w : A) → laid s v ≡ Ok w → (is_laid_out s ≡ true) × (v ≡ w)
 laid_ok s v w h = laid_by (is_laid_out s) v w h
 
-with_mark_ok : (e : Entry) (o : Option Mark) (m : Marked) → with_mark e o ≡ Ok m → e ≡ m.entry
+pub with_mark_ok : (e : Entry) (o : Option Mark) (m : Marked) → with_mark e o ≡ Ok m → e ≡ m.entry
 with_mark_ok e None m h = absurd (cc)
 with_mark_ok e (Some x) m h = let same : record { entry = e; mark = x } ≡ m = cc in ap (λ (y : Marked). y.entry) same
 
@@ -229,7 +228,7 @@ result_cell_sized cell.PlainValue s h = h
 result_cell_sized _ s h = h
 
 module _ (known : Known) (ordered : IsInOrder known) where
-  form_narrow : (f : Form) (s : Shape) → not_inline f ≡ true → shape_of_form known f ≡ Some s → (measure s).stands ≡ true → size s < 2 ^ 64
+  pub form_narrow : (f : Form) (s : Shape) → not_inline f ≡ true → shape_of_form known f ≡ Some s → (measure s).stands ≡ true → size s < 2 ^ 64
   form_narrow (form.Int w signed) s o h l = let same : shape.Int (bytes w) signed ≡ s = cc in narrow_as (shape.Int (bytes w) signed) s same (int_narrow (bytes w) signed (width_narrow w))
   form_narrow (form.Native signed) s o h l = let same : shape.Native signed ≡ s = cc in narrow_as (shape.Native signed) s same (native_narrow signed)
   form_narrow (form.Bool w) s o h l = let same : shape.Bool (bytes w) ≡ s = cc in narrow_as (shape.Bool (bytes w)) s same (bool_narrow (bytes w) (width_narrow w))
@@ -297,7 +296,7 @@ module _ (known : Known) (ordered : IsInOrder known) where
         narrow = row_narrow u i.row c n type d e i.is (entered (cell_at i.row c) (shape_by known u i.row type d) e i.is) stands;
       }
 
-  found_sized : (u : Bool) (c : Column) → c ≢ column.Field → (p : Passed) (e : Entry) → entry_in known u c p ≡ Ok e → is_laid_out e.shape ≡ true → IsSized e.shape
+  pub found_sized : (u : Bool) (c : Column) → c ≢ column.Field → (p : Passed) (e : Entry) → entry_in known u c p ≡ Ok e → is_laid_out e.shape ≡ true → IsSized e.shape
   found_sized u c n p e h l = entry_sized u c n p.kind p.descriptor e (found_some known u c p e (entry_by known u c p.kind p.descriptor) h) l
 
   marked_sized : (u : Bool) (c : Column) → c ≢ column.Field → (p : Passed) (m : Marked) → marked_in known u c p ≡ Ok m → IsSized m.entry.shape
@@ -323,14 +322,14 @@ module _ (known : Known) (ordered : IsInOrder known) where
       let first = step_sized u k p f.value (refused_at_ok (Arg k) (step_of known u k p) f.value f.was) in
       subst (All IsSizedStep) g.is (All-cons IsSizedStep f.value g.value first (steps_sized u (k + 1) ps g.value g.was))
 
-  pub result_sized : (u : Bool) (p : Option Passed) (r : Res) → returned known u column.Returned p ≡ Ok r → IsSizedResult r
-  result_sized u None r h = let same : res.Void ≡ r = cc in subst IsSizedResult same tt
-  result_sized u (Some p) r h =
-      let there = by_value p.reference (map_ok returned_by (and_then (λ (e : Entry). laid e.shape e) (entry_in known u column.Returned p))) r h in
-      let m = map_ok_ok returned_by (and_then (λ (e : Entry). laid e.shape e) (entry_in known u column.Returned p)) r there in
-      let f = and_then_ok (λ (e : Entry). laid e.shape e) (entry_in known u column.Returned p) m.value m.was in
+  pub result_sized : (u : Bool) (c : Column) → c ≢ column.Field → (p : Option Passed) (r : Res) → returned known u c p ≡ Ok r → IsSizedResult r
+  result_sized u c n None r h = let same : res.Void ≡ r = cc in subst IsSizedResult same tt
+  result_sized u c n (Some p) r h =
+      let there = by_value p.reference (map_ok returned_by (and_then (λ (e : Entry). laid e.shape e) (entry_in known u c p))) r h in
+      let m = map_ok_ok returned_by (and_then (λ (e : Entry). laid e.shape e) (entry_in known u c p)) r there in
+      let f = and_then_ok (λ (e : Entry). laid e.shape e) (entry_in known u c p) m.value m.was in
       let l = laid_ok f.value.shape f.value m.value f.then in
-      let sized = found_sized u column.Returned (λ same. cc) p f.value f.was l.0 in
+      let sized = found_sized u c n p f.value f.was l.0 in
       let one : IsSizedResult (returned_by f.value) = result_cell_sized f.value.cell f.value.shape sized in
       subst IsSizedResult (ap returned_by l.1 ∙ m.is) one
 
@@ -340,7 +339,7 @@ module _ (known : Known) (ordered : IsInOrder known) where
       let g = map_ok_ok (stub_by i.saves_error f.value) (refused_at TheResult (returned known i.unicode column.Returned s.result)) stub f.then in
       let made : IsSizedStub (stub_by i.saves_error f.value g.value) = record {
         steps = steps_sized i.unicode 0 s.params f.value f.was;
-        result_way = result_sized i.unicode s.result g.value (refused_at_ok TheResult (returned known i.unicode column.Returned s.result) g.value g.was);
+        result_way = result_sized i.unicode column.Returned (λ same. cc) s.result g.value (refused_at_ok TheResult (returned known i.unicode column.Returned s.result) g.value g.was);
       } in
       subst IsSizedStub g.is made
 

@@ -1,5 +1,5 @@
 -- Answers for parameters in order, one more at a time.
-use Rattle.std.proofs.Common.{◌≡◌, ℕ, ◌+◌, ◌<◌, List, [], ◌∷◌, ◌++◌, length, take, drop, get_or, Result, Ok, Err, refl, ap, sym, subst, arith, ◌∙◌}
+use Rattle.std.proofs.Common.{◌≡◌, ℕ, ◌+◌, ◌<◌, List, [], ◌∷◌, ◌++◌, length, take, drop, get_or, Result, Ok, Err, ap, sym, subst, arith, ◌∙◌}
 use Rattle.std.proofs.lemmas.List.{take-append-drop, take_more, drop_more, length-take}
 use Rattle.stub_maker.specs.declared.kinds.Passed.{Passed}
 use Rattle.stub_maker.specs.declared.refused.Param.TheVariants.{Arg}
@@ -8,7 +8,7 @@ use Rattle.stub_maker.specs.declared.refused.StubBad.TheVariants.{Outside, Memor
 use Rattle.stub_maker.specs.declared.refused.Why.{Why}
 use Rattle.stub_maker.specs.Answers.{and_then, map_ok}
 use Rattle.stub_maker.specs.Crossing.{IsReturned, IsStep}
-use Rattle.stub_maker.specs.Rules.{Refused, each_from, refused_at}
+use Rattle.stub_maker.specs.Rules.{each_from, refused_at}
 use Rattle.stub_maker.proofs.Orderly.{and_then_ok, map_ok_ok, refused_at_ok}
 
 -- the first answer and the others

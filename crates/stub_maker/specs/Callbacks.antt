@@ -14,7 +14,6 @@ use Rattle.stub_maker.specs.declared.callbacks.Counted.{Counted}
 use Rattle.stub_maker.specs.declared.table.Column.TheVariants as column
 use Rattle.stub_maker.specs.declared.table.Cell.{Cell}
 use Rattle.stub_maker.specs.declared.table.Cell.TheVariants as cell
-use Rattle.stub_maker.specs.declared.stub.Mark.{Mark}
 use Rattle.stub_maker.specs.declared.stub.Received.{Received}
 use Rattle.stub_maker.specs.declared.stub.Received.TheVariants as received
 use Rattle.stub_maker.specs.declared.stub.Res.{Res}

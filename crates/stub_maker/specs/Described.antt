@@ -1,5 +1,5 @@
 -- What the types, the methods and the imports of a module are to the marshalling table.
-use Rattle.std.specs.Prelude.{◌≡◌, ℕ, ◌+◌, ◌-◌, min, Bool, ◌||◌, true, false, not, ◌==◌, ◌&&◌, List, [], ◌∷◌, map, length, Option, Some, None, Result, option_map, option_and_then, unwrap_or, bit_and, if◌then◌else◌, find}
+use Rattle.std.specs.Prelude.{◌≡◌, ℕ, ◌+◌, ◌-◌, min, Bool, ◌||◌, true, false, not, ◌==◌, ◌&&◌, List, [], ◌∷◌, map, Option, Some, None, Result, option_map, option_and_then, unwrap_or, bit_and, if◌then◌else◌, find}
 use Rattle.std.specs.List.{enumerate_from}
 use Rattle.managed_value.specs.declared.names.TypeId.{TypeId}
 use Rattle.sig_reader.specs.declared.signature.TypeSig.{TypeSig, out-TypeSig}

@@ -1,6 +1,6 @@
 -- What the value types and the delegate types of a file are to the marshalling table. One may need others: a struct those of
 -- its fields, a delegate type those of Invoke.
-use Rattle.std.specs.Prelude.{ℕ, zero, suc, ◌+◌, Bool, false, List, [], ◌∷◌, map, Option, Some, None, is_ok}
+use Rattle.std.specs.Prelude.{ℕ, zero, suc, ◌+◌, false, List, [], ◌∷◌, map, Option, Some, None, is_ok}
 use Rattle.std.specs.Option.{option_and_then, option_map}
 use Rattle.native_layout.specs.declared.shapes.Shape.{Shape}
 use Rattle.native_layout.specs.declared.shapes.StructShape.{StructShape}

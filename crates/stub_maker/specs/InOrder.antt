@@ -1,5 +1,5 @@
 -- Each width in a shape that the rule over the table gives is one that its kind has.
-use Rattle.std.specs.Prelude.{◌≡◌, ℕ, ◌+◌, zero, suc, Bool, true, false, ◌&&◌, ◌==◌, nat_le, List, [], ◌∷◌, map, Option, Some, None, option_map, option_and_then, find, not, cond, IsTrue}
+use Rattle.std.specs.Prelude.{◌≡◌, ℕ, ◌+◌, zero, suc, Bool, true, false, ◌&&◌, ◌==◌, nat_le, List, [], ◌∷◌, map, Option, Some, None, option_map, option_and_then, find, not, cond}
 use Rattle.std.specs.List.{list_all, list_any}
 use Rattle.std.proofs.lemmas.List.Folds.{list_all-map}
 use Rattle.std.proofs.Common.{◌⊎◌, inl, inr, refl, sym, ap, subst, rules, ◌∙◌}
@@ -18,7 +18,7 @@ use Rattle.stub_maker.specs.declared.kinds.Form.TheVariants as form
 use Rattle.stub_maker.specs.declared.kinds.TypeKind.{TypeKind}
 use Rattle.stub_maker.specs.declared.kinds.TypeKind.TheVariants.{One, Array}
 use Rattle.stub_maker.specs.declared.kinds.Descriptor.{Descriptor}
-use Rattle.stub_maker.specs.declared.kinds.Descriptor.TheVariants.{Nothing, Unread, Is}
+use Rattle.stub_maker.specs.declared.kinds.Descriptor.TheVariants.{Nothing, Is}
 use Rattle.stub_maker.specs.declared.table.Row.{Row}
 use Rattle.stub_maker.specs.declared.table.Row.TheVariants as row
 use Rattle.stub_maker.specs.declared.table.Column.{Column}

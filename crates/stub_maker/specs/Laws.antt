@@ -1,16 +1,22 @@
 -- Laws of stubs.
-use Rattle.std.specs.Prelude.{◌≡◌, ℕ, ◌+◌, ◌≤◌, List, [], ◌∷◌, length, map, reverse, Some, Ok}
+use Rattle.std.specs.Prelude.{◌≡◌, ℕ, ◌+◌, ◌≤◌, List, [], ◌∷◌, length, map, option_map, reverse, Option, Some, Ok}
 use Rattle.std.specs.List.{range_with_len}
 use Rattle.stub_maker.specs.declared.kinds.Passed.{Passed}
 use Rattle.stub_maker.specs.declared.stub.Stub.{Stub}
+use Rattle.native_layout.specs.declared.shapes.Shape.{Shape}
+use Rattle.sig_reader.specs.declared.signature.Sig.{Sig, out-Sig}
+use Rattle.stub_maker.specs.declared.kinds.TypeKind.{TypeKind}
+use Rattle.stub_maker.specs.declared.stub.Back.{Back}
 use Rattle.stub_maker.specs.Shapes.{Known}
+use Rattle.stub_maker.specs.Callbacks.{back_of}
 use Rattle.stub_maker.specs.Steps.{argument_of}
 use Rattle.stub_maker.specs.declared.signature.Imported.{Imported}
 use Rattle.stub_maker.specs.declared.signature.Signature.{Signature}
 use Rattle.stub_maker.specs.Rules.{read_back, stub_of}
 use Rattle.type_model.specs.Module.{Module}
-use Rattle.stub_maker.specs.Described.{known_of}
-use Rattle.stub_maker.specs.Sized.{IsInOrder, IsSizedStub}
+use Rattle.type_model.specs.Members.{Import, mark_of, marshalled, method, sig_of}
+use Rattle.stub_maker.specs.Described.{bare_shape, known_of, stub_of_import}
+use Rattle.stub_maker.specs.Sized.{IsInOrder, IsSized, IsSizedBack, IsSizedStub}
 
 -- numbers that rise, the first from a bound on
 abbrev pub RiseFrom : ℕ → List ℕ → Type 0
@@ -37,3 +43,28 @@ KnownIsInOrder = (m : Module) → IsInOrder (known_of m)
 -- a stub's shapes are in order and laid out, and have sizes of 64 bits
 abbrev pub StubsAreSized : Type 0
 StubsAreSized = (known : Known) (i : Imported) (stub : Stub) → IsInOrder known → stub_of known i ≡ Ok stub → IsSizedStub stub
+
+-- the same of a callback
+abbrev pub BacksAreSized : Type 0
+BacksAreSized = (known : Known) (invoke : Option Signature) (back : Back) → IsInOrder known → back_of known invoke ≡ Ok back → IsSizedBack back
+
+-- the shape of a type without a descriptor is in order and laid out, and has a size of 64 bits
+abbrev pub BareShapesAreSized : Type 0
+BareShapesAreSized = (known : Known) (k : TypeKind) (s : Shape) → IsInOrder known → bare_shape known k ≡ Ok s → IsSized s
+
+-- Imports of a module that are alike but for their names and their methods' rows: in the flags of their rows of ImplMap
+-- (ECMA-335 II.22.22), in the flags and the implementation flags of their methods (II.22.26), in those methods' signatures, and in the marks and
+-- the descriptors of each place of these (II.22.33, II.22.17). Place 0 is the result, and the parameters count from 1.
+pub record AreAlike (m : Module) (i j : Import) : Type 0 where
+  pub flags : i.flags ≡ j.flags
+  pub method_flags : option_map (λ of. of.flags) (method m i.method) ≡ option_map (λ of. of.flags) (method m j.method)
+  pub impl_flags : option_map (λ of. of.impl_flags) (method m i.method) ≡ option_map (λ of. of.impl_flags) (method m j.method)
+  pub sigs : sig_of m i.method ≡ sig_of m j.method
+  pub marks : (sig : Sig) (place : ℕ) → sig_of m i.method ≡ Some sig → place ≤ length (out-Sig sig).params
+      → mark_of m i.method place ≡ mark_of m j.method place
+  pub descriptors : (sig : Sig) (place : ℕ) → sig_of m i.method ≡ Some sig → place ≤ length (out-Sig sig).params
+      → marshalled m i.method place ≡ marshalled m j.method place
+
+-- imports that are alike have one stub, or one refusal, whatever they and their libraries and methods are called
+abbrev pub NamesDoNotMatter : Type 0
+NamesDoNotMatter = (m : Module) (i j : Import) → AreAlike m i j → stub_of_import m i ≡ stub_of_import m j

@@ -1,5 +1,5 @@
 -- What is known of a file's types while their needs are being met.
-use Rattle.std.specs.Prelude.{◌≡◌, ℕ, ◌+◌, ◌-◌, ◌<◌, ◌≤◌, ◌^◌, Bool, ◌&&◌, true, false, nat_le, List, length, slice_index_or, slice_set, Option, Some, None, is_some, is_ok, if◌then◌else◌}
+use Rattle.std.specs.Prelude.{◌≡◌, ℕ, ◌+◌, ◌-◌, ◌<◌, ◌^◌, Bool, ◌&&◌, true, false, nat_le, List, length, slice_index_or, slice_set, Option, Some, None, is_some, is_ok, if◌then◌else◌}
 use Rattle.std.specs.List.{count_by}
 use Rattle.std.specs.Option.{option_and_then, option_map}
 use Rattle.native_layout.specs.declared.outlines.Outline.{Outline}

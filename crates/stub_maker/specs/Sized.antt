@@ -10,6 +10,9 @@ use Rattle.stub_maker.specs.declared.stub.Step.TheVariants as step
 use Rattle.stub_maker.specs.declared.stub.Res.{Res}
 use Rattle.stub_maker.specs.declared.stub.Res.TheVariants as res
 use Rattle.stub_maker.specs.declared.stub.Stub.{Stub}
+use Rattle.stub_maker.specs.declared.stub.Received.{Received}
+use Rattle.stub_maker.specs.declared.stub.Received.TheVariants as received
+use Rattle.stub_maker.specs.declared.stub.Back.{Back}
 
 -- each value type that is known has fields of widths that their kinds have
 abbrev pub IsInOrder : Known → Type 0
@@ -39,3 +42,14 @@ IsSizedResult (res.Value shape) = IsSized shape
 pub record IsSizedStub (stub : Stub) : Type 0 where
   pub steps : All IsSizedStep stub.steps
   pub result_way : IsSizedResult stub.result
+
+abbrev pub IsSizedReceived : Received → Type 0
+IsSizedReceived (received.Word shape) = IsSized shape
+IsSizedReceived (received.Text encoding) = Unit {0}
+IsSizedReceived (received.Value shape) = IsSized shape
+IsSizedReceived (received.Place shape) = IsSized shape
+IsSizedReceived (received.Copy base shape count parameter) = IsSized shape
+
+pub record IsSizedBack (back : Back) : Type 0 where
+  pub params : All IsSizedReceived back.params
+  pub result_way : IsSizedResult back.result

@@ -4,7 +4,7 @@ ghost use Rattle.std.specs.Prelude.{◌≡◌, IfOk};
 ghost use Rattle.type_model.specs.MemberViews.{view_import};
 ghost use Rattle.stub_maker.specs.Crossing.{IsReturned};
 ghost use Rattle.stub_maker.specs.Described.{AreKinds, back_of_delegate, known_of, shape_of_type, stub_of_import};
-ghost use Rattle.stub_maker.specs.Sized.{IsSizedStub};
+ghost use Rattle.stub_maker.specs.Sized.{IsSized, IsSizedBack, IsSizedStub};
 
 use crate::backs::back_of;
 use crate::bare_shapes::bare_shape;
@@ -31,14 +31,16 @@ pub fn make_stub(alloc: Global, known: &FileTypes<'_>, import: &Import<'_>) -> R
 
 /// How a callback by a delegate type of the file crosses, or what of it has no row in the marshalling table and why.
 pub fn make_back(alloc: Global, known: &FileTypes<'_>, delegate: TypeId) -> Result<Back, StubBad>
-    ensures { IsReturned result (back_of_delegate known.now delegate) }
+    ensures back { IsReturned result (back_of_delegate known.now delegate) }
+    ensures sized { IfOk result IsSizedBack }
 {
     back_by(alloc, known.types(), known.kinds(), known, delegate)
 }
 
 /// The shape that a type has without a descriptor and under the charset Ansi, as a field has it; or why it has none.
 pub fn shape_of(alloc: Global, known: &FileTypes<'_>, t: TypeId) -> Result<Shape, StubBad>
-    ensures { IsReturned result (shape_of_type known.now t) }
+    ensures shape { IsReturned result (shape_of_type known.now t) }
+    ensures sized { IfOk result IsSized }
 {
     shape_by(alloc, known.types(), known.kinds(), known, t)
 }
@@ -74,7 +76,8 @@ fn back_by<K: ShapedTypes>(
 ) -> Result<Back, StubBad>
     requires kinds { AreKinds types.now kinds.now }
     requires known { K.known known.now ≡ known_of types.now }
-    ensures { IsReturned result (back_of_delegate types.now delegate) }
+    ensures back { IsReturned result (back_of_delegate types.now delegate) }
+    ensures sized { IfOk result IsSizedBack }
 {
     let signature = invoke_signature(alloc, types, kinds, delegate.base)?;
     back_of(alloc, known, signature.as_ref())
@@ -91,7 +94,8 @@ fn shape_by<K: ShapedTypes>(
 ) -> Result<Shape, StubBad>
     requires kinds { AreKinds types.now kinds.now }
     requires known { K.known known.now ≡ known_of types.now }
-    ensures { IsReturned result (shape_of_type types.now t) }
+    ensures shape { IsReturned result (shape_of_type types.now t) }
+    ensures sized { IfOk result IsSized }
 {
     bare_shape(alloc, known, type_kind(types, kinds, t))
 }

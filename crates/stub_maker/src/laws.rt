@@ -1,7 +1,7 @@
 //! Laws of stubs: each function's contract is one.
 
 ghost use Rattle.stub_maker.specs.Examples.{RowsAreAnswered};
-ghost use Rattle.stub_maker.specs.Laws.{KnownIsInOrder, StubsAreOrderly, StubsAreSized};
+ghost use Rattle.stub_maker.specs.Laws.{BacksAreSized, BareShapesAreSized, KnownIsInOrder, NamesDoNotMatter, StubsAreOrderly, StubsAreSized};
 
 /// A stub has one step for each parameter, in order. Places and copies that native code may have written are read back, from
 /// left to right, and what ends does so from right to left.
@@ -23,4 +23,20 @@ pub fn known_is_in_order()
 /// A stub can be printed: each shape of it is in order and laid out, and its size has 64 bits.
 pub fn stubs_are_sized()
     ensures { StubsAreSized }
+{}
+
+/// So can how a callback crosses.
+pub fn backs_are_sized()
+    ensures { BacksAreSized }
+{}
+
+/// So can the shape of a type without a descriptor.
+pub fn bare_shapes_are_sized()
+    ensures { BareShapesAreSized }
+{}
+
+/// Imports that are alike in their flags, and in the signatures, the marks and the descriptors of their methods, have one stub or
+/// one refusal, whatever they are called.
+pub fn names_do_not_matter()
+    ensures { NamesDoNotMatter }
 {}

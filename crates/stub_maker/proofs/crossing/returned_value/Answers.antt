@@ -1,4 +1,4 @@
-use Rattle.std.proofs.Common.{Result, Ok, Err, ap, refl, subst, sym, ◌∙◌}
+use Rattle.std.proofs.Common.{Ok, Err, ap, refl, subst, sym, ◌∙◌}
 use Rattle.stub_maker.specs.declared.stub.Res.{Res}
 use Rattle.stub_maker.specs.declared.refused.Param.TheVariants.{Result as TheResult}
 use Rattle.stub_maker.specs.declared.refused.StubBad.{StubBad}

@@ -1,4 +1,4 @@
-use Rattle.std.proofs.Common.{◌≡◌, ℕ, ◌<◌, ◌≤◌, false, sym, subst, arith, nat_le}
+use Rattle.std.proofs.Common.{◌≡◌, ℕ, ◌<◌, false, sym, subst, arith, nat_le}
 use Rattle.std.proofs.lemmas.Bool.{lt-leb}
 use Rattle.type_model.specs.TypeIds.{row_limit}
 use Rattle.stub_maker.specs.declared.kinds.Kind.TheVariants.{Other}

@@ -1,4 +1,4 @@
-use Rattle.std.proofs.Common.{Option, is_ok, sym, ◌∙◌, ap}
+use Rattle.std.proofs.Common.{Option, is_ok, ◌∙◌, ap}
 use Rattle.type_model.specs.Module.{Module}
 use Rattle.stub_maker.specs.declared.signature.Signature.{Signature}
 use Rattle.stub_maker.specs.Callbacks.{back_of}

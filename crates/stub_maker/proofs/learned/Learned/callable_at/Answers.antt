@@ -1,4 +1,4 @@
-use Rattle.std.proofs.Common.{◌≡◌, Some, None, false, sym, ◌∙◌, ap}
+use Rattle.std.proofs.Common.{Some, None, false, sym, ◌∙◌, ap}
 use Rattle.stub_maker.specs.Learned.{Learned, callable_at, known_so_far}
 use Rattle.stub_maker.proofs.Findings.{got_or, so_far_callable}
 use Rattle.stub_maker.proofs.learned.Learned.callable_at.Goals as goal

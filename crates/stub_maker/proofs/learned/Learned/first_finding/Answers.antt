@@ -1,4 +1,4 @@
-use Rattle.std.proofs.Common.{◌≡◌, ◌≤◌, ℕ, ◌<◌, ◌+◌, arith, sym, ◌∙◌, ap, subst}
+use Rattle.std.proofs.Common.{◌≡◌, ℕ, ◌<◌, ◌+◌, arith, sym, ◌∙◌, ap, subst}
 use Rattle.type_model.specs.Module.{Module, row_count}
 use Rattle.type_model.specs.Rows as Rows
 use Rattle.stub_maker.specs.Described.{facts_of, known_of}

@@ -1,9 +1,6 @@
-use Rattle.std.proofs.Common.{◌≡◌, ℕ, ◌+◌, Bool, false, List, Option, None, replicate, sym, ◌∙◌, ap, subst}
-use Rattle.native_layout.specs.declared.outlines.Outline.{Outline}
+use Rattle.std.proofs.Common.{◌≡◌, ◌∙◌, ap}
 use Rattle.type_model.specs.Module.{Module, row_count}
 use Rattle.type_model.specs.Rows as Rows
-use Rattle.stub_maker.specs.Described.{facts_of}
-use Rattle.stub_maker.specs.Learned.{IsRight}
 use Rattle.stub_maker.proofs.Findings.{right_by}
 use Rattle.stub_maker.proofs.learned.Learned.new.Goals as goal
 

@@ -1,4 +1,4 @@
-use Rattle.std.proofs.Common.{◌≡◌, Some, None, sym, ◌∙◌, ap}
+use Rattle.std.proofs.Common.{Some, None, sym, ◌∙◌, ap}
 use Rattle.stub_maker.specs.Learned.{Learned, known_so_far, outline_at, outline_of}
 use Rattle.stub_maker.proofs.Findings.{got_or, so_far_outline, sound_at}
 use Rattle.stub_maker.proofs.learned.Learned.outline_at.Goals as goal

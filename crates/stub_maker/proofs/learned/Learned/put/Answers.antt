@@ -1,4 +1,4 @@
-use Rattle.std.proofs.Common.{◌+◌, ◌<◌, Bool, List, length, Option, arith, sym, subst}
+use Rattle.std.proofs.Common.{◌<◌, Bool, List, Option, arith, sym, subst}
 use Rattle.native_layout.specs.declared.outlines.Outline.{Outline}
 use Rattle.stub_maker.specs.declared.finding.Finding.{Finding}
 use Rattle.stub_maker.specs.declared.finding.Finding.TheVariants.{Callable, Outlined}
