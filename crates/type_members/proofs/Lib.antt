@@ -1,0 +1,4 @@
+pub mod MemberViews
+pub mod Spellings
+pub mod Searches
+pub mod FoundRows

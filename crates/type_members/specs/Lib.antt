@@ -1,0 +1,5 @@
+pub mod CoreMembers
+pub mod View
+pub mod Spelled
+pub mod Found
+pub mod Holding

@@ -1,0 +1,15 @@
+//! The members of the types of an assembly: what member tokens find, what may stand for what, and which method answers a call
+//! (ECMA-335 II.10, II.12, II.22).
+#![tactic(auto)]
+
+mod core_members;
+mod keys;
+mod member;
+mod member_refs;
+mod members;
+mod spelling;
+mod table_numbers;
+
+pub use core_members::{CoreMember, CorePart, MemberKind, core_member};
+pub use member::{Member, Unresolved};
+pub use members::Members;
