@@ -16,9 +16,11 @@ from made_assemblies import (
 
 MANY = 60_000
 DEEPEST = 64
+COMMANDS = ("imports", "stubs")
 
-# A case: its name, its bytes, and what `stubs` prints; or the row of TypeDef at which the part `types` is broken.
-Case = namedtuple("Case", "name data stubs row", defaults=(None,))
+# A case: its name, its bytes, and what `stubs` prints; or the row of TypeDef at which the part `types` is broken; and the commands
+# that are asked.
+Case = namedtuple("Case", "name data stubs row commands", defaults=(None, COMMANDS))
 
 
 def stub(name, *lines, result="result void"):
@@ -37,8 +39,8 @@ def by_reference(sign):
     return method_sign(VOID, b"\x10" + sign)
 
 
-def case(name, assembly, stubs="", row=None):
-    return Case(name, assembly.image(), stubs, row)
+def case(name, assembly, stubs="", row=None, commands=COMMANDS):
+    return Case(name, assembly.image(), stubs, row, commands)
 
 
 def program(assembly, *imports):
@@ -199,14 +201,16 @@ def explicit_fields(many):
 
 
 def inherited_fields(many):
-    """Value types each of which extends the one before and adds an int."""
-    made = Assembly()
-    row = made.value_type(b"V", INT)
-    for _ in range(many - 1):
-        row = made.type(b"V", type_token(TYPE_DEF, row), 0x08)
-        made.field(INT)
-    program(made, (b"f", by_reference(named(row))))
-    yield case("a chain of value types that extend each other", made, stub("f", *place(4 * many)))
+    """Value types each of which extends the one before and adds an int. `stubs` finds what each of them is by all of its fields, the
+    inherited ones too, so it takes the square of the chain's length: it is asked for a shorter one."""
+    for length, commands in ((many, ("imports",)), (min(many, 4_000), COMMANDS)):
+        made = Assembly()
+        row = made.value_type(b"V", INT)
+        for _ in range(length - 1):
+            row = made.type(b"V", type_token(TYPE_DEF, row), 0x08)
+            made.field(INT)
+        program(made, (b"f", by_reference(named(row))))
+        yield case(f"a chain of {length} value types that extend each other", made, stub("f", *place(4 * length)), commands=commands)
 
 
 # numbers that promise much
