@@ -2,3 +2,5 @@ pub mod MemberViews
 pub mod Spellings
 pub mod Searches
 pub mod FoundRows
+pub mod CoreEdges
+pub mod SubtypeCases

@@ -3,3 +3,4 @@ pub mod View
 pub mod Spelled
 pub mod Found
 pub mod Holding
+pub mod Subtypes

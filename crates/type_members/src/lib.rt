@@ -3,6 +3,7 @@
 #![tactic(auto)]
 
 mod core_members;
+mod edges;
 mod keys;
 mod member;
 mod member_refs;
