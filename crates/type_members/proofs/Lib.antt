@@ -4,3 +4,4 @@ pub mod Searches
 pub mod FoundRows
 pub mod CoreEdges
 pub mod SubtypeCases
+pub mod LawsOfMembers

@@ -4,3 +4,5 @@ pub mod Spelled
 pub mod Found
 pub mod Holding
 pub mod Subtypes
+pub mod Chosen
+pub mod Laws

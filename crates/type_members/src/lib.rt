@@ -5,6 +5,7 @@
 mod core_members;
 mod edges;
 mod keys;
+mod laws;
 mod member;
 mod member_refs;
 mod members;
@@ -12,5 +13,6 @@ mod spelling;
 mod table_numbers;
 
 pub use core_members::{CoreMember, CorePart, MemberKind, core_member};
+pub use laws::{handle_is_a_core_member, plain_methods_answer_themselves};
 pub use member::{Member, Unresolved};
 pub use members::Members;
