@@ -5,3 +5,4 @@ pub mod FoundRows
 pub mod CoreEdges
 pub mod SubtypeCases
 pub mod LawsOfMembers
+pub mod Composing
