@@ -67,7 +67,7 @@ module _ (edges : List Edge) (numbers : List ℕ) where
       none_at_all all node cycle = let edge = not_passed node cycle (record { from = 0; to = 0 }) in absurd (omega (arith, edge.1, edge.2))
 
 module _ (edges same : List Edge) (moved : IsPermutation edges same) where
-  walked : (from to : ℕ) → Leads edges from to → Leads same from to
+  pub walked : (from to : ℕ) → Leads edges from to → Leads same from to
   walked from to (Along edge) = Along (Contains-permutation edges same (record { from = from; to = to }) moved edge)
   walked from to (Further {v = v} walk edge) =
       Further (walked from v walk) (Contains-permutation edges same (record { from = v; to = to }) moved edge)

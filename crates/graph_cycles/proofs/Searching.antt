@@ -6,7 +6,7 @@ use Rattle.std.proofs.lemmas.List.{get_or_default, get_or_append_left}
 use Rattle.std.proofs.lemmas.List.Elements.{All-push, All-contains, Contains-push, Contains-append_left}
 use Rattle.std.proofs.lemmas.List.Sums.{sum_by-set}
 use Rattle.graph_cycles.specs.declared.graph.Edge.{Edge}
-use Rattle.graph_cycles.specs.Cycles.{Leads, OnCycle}
+use Rattle.graph_cycles.specs.Cycles.{Leads}
 use Rattle.graph_cycles.specs.Cycles.Leads.{Along, Further}
 use Rattle.graph_cycles.specs.Parts.{Continues, IsFollowed, IsSearch, Grows}
 
@@ -51,8 +51,8 @@ pub longer : (a b : List Bool) (p q : List ℕ) → Grows a b p q → length p �
 longer a b p q grows = rw grows.places (simp length-append (omega arith))
 
 module _ (edges : List Edge) (start : ℕ) (marks : List Bool) (queue : List ℕ) (search : IsSearch edges start marks queue) where
-  pub reached_leads : get_or marks start false ≡ true → OnCycle edges start
-  reached_leads marked = All-contains (Leads edges start) queue start search.reached (search.queued start marked)
+  pub reached_leads : (to : ℕ) → get_or marks to false ≡ true → Leads edges start to
+  reached_leads to marked = All-contains (Leads edges start) queue to search.reached (search.queued to marked)
 
   -- what a queued node's edges lead to ends a walk from the start
   pub continues : (k : ℕ) → k < length queue → Continues edges start (get_or queue k 0)

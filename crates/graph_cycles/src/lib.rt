@@ -13,5 +13,6 @@ mod search;
 
 pub use chains::after_steps;
 pub use first::first_on_cycle;
-pub use graph::Edge;
+pub use graph::{Edge, Graph};
 pub use laws::{ranks_rule_out_cycles, walks_are_decided, walks_join};
+pub use search::leads;

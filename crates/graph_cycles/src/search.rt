@@ -72,13 +72,22 @@ impl Search {
 pub fn is_on_cycle(alloc: Global, graph: &Graph, node: u32) -> Result<bool, AllocError>
     ensures { IfOk result (λ found. IsTrue found ↔ OnCycle graph.now.edges.items node) }
 {
+    leads(alloc, graph, node, node)
+}
+
+/// Whether one edge or more lead from a node to another, or to itself.
+///
+/// Time and memory grow with the graph.
+pub fn leads(alloc: Global, graph: &Graph, from: u32, to: u32) -> Result<bool, AllocError>
+    ensures { IfOk result (λ found. IsTrue found ↔ Leads graph.now.edges.items from to) }
+{
     let mut search = Search::new(alloc, graph)?;
-    search.follow(graph, node)?;
+    search.follow(graph, from)?;
     let mut next = 0;
     while next < search.queue.len() {
         let reached = search.queue[next];
         search.follow(graph, reached)?;
         next += 1;
     }
-    Ok(search.has_reached(node))
+    Ok(search.has_reached(to))
 }

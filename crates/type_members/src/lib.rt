@@ -3,7 +3,9 @@
 #![tactic(auto)]
 
 mod core_members;
+mod edges;
 mod keys;
+mod laws;
 mod member;
 mod member_refs;
 mod members;
@@ -11,5 +13,9 @@ mod spelling;
 mod table_numbers;
 
 pub use core_members::{CoreMember, CorePart, MemberKind, core_member};
+pub use laws::{
+    handle_is_a_core_member, plain_methods_answer_themselves, subtypes_are_reflexive,
+    subtypes_compose,
+};
 pub use member::{Member, Unresolved};
 pub use members::Members;

@@ -1,43 +1,62 @@
 //! An assembly's types with what its tokens find.
 
-ghost use Rattle.std.specs.Prelude.{◌≡◌, ◌≤◌, ◌-◌, None, Some, IfOk, IfErr, slice_index_or};
+ghost use Rattle.std.specs.Prelude.{◌≡◌, ◌≤◌, ◌-◌, ◌↔◌, true, false, None, Some, IsTrue, IfOk, IfErr, slice_index_or};
+ghost use Rattle.graph_cycles.specs.Cycles.{Leads};
 ghost use Rattle.type_members.specs.Found.{found};
-ghost use Rattle.type_members.specs.Holding.{found_refs as refs_found};
+ghost use Rattle.type_members.specs.Subtypes.{IsSubtype, IsOfArrays, type_edges, node as node_of};
 
+use crate::edges::{node, type_graph};
 use crate::member::{Member, Unresolved};
 use crate::member_refs::{found_refs, known_method};
 use crate::table_numbers::{FIELDS, MEMBER_REFS, METHOD_DEFS, ROW_LIMIT};
 use bound_base::{Items, NoMemory};
+use graph_cycles::{Graph, leads};
+use managed_value::TypeId;
 use std::alloc::Global;
 use std::marker::Model;
 use type_model::Types;
+
+/// The places of Array and of what it extends, among the core types.
+const ARRAY: u32 = 3;
+
+const OBJECT: u32 = 0;
 
 /// The types of an assembly, and what each of its rows of MemberRef finds.
 #[derive(Drop)]
 pub struct Members {
     types: Types,
     refs: Items<Option<Member>>,
+    /// From each type to those right above it.
+    plain: Graph,
+    /// The same, where no value type leads on.
+    elements: Graph,
 }
 
 impl Model for Members {
-    ghost use Rattle.std.specs.Prelude.{◌≡◌};
     ghost use Rattle.type_model.specs.Module.{Module as ModuleValue};
-    ghost use Rattle.type_members.specs.Holding.{found_refs as held};
+    ghost use Rattle.type_members.specs.Holding.{HoldsMembers};
 
     ghost Value = { ModuleValue };
 
     ghost view = { λ m. m.types };
 
-    ghost invariant = { λ m. m.refs ≡ held m.types };
+    ghost invariant = { λ m. HoldsMembers m.types m.refs m.plain.edges.items m.elements.edges.items };
 }
 
 impl Members {
-    /// Finds what each row of MemberRef finds.
+    /// Finds what each row of MemberRef finds, and what stands right above each type.
     pub fn of(alloc: Global, types: Types) -> Result<Members, NoMemory>
         ensures { IfOk result (λ members. members ≡ types) }
     {
         let refs = found_refs(alloc, &types)?;
-        Ok(Members { types, refs })
+        let plain = type_graph(alloc, &types, false)?;
+        let elements = type_graph(alloc, &types, true)?;
+        Ok(Members {
+            types,
+            refs,
+            plain,
+            elements,
+        })
     }
 
     /// The types.
@@ -57,6 +76,44 @@ impl Members {
         self.find(token).ok_or(Unresolved(token))
     }
 
+    /// Whether a value of a type may stand where another type is wanted (ECMA-335 I.8.7.1): where it is that type, or one below it
+    /// by what types extend and which interfaces they have; and an array where its element may stand for the other's, unless that
+    /// is a value type.
+    ///
+    /// Time and memory grow with the types and their interfaces.
+    pub fn is_subtype(&self, alloc: Global, a: TypeId, b: TypeId) -> Result<bool, NoMemory>
+        ensures { IfOk result (λ is. IsTrue is ↔ IsSubtype self.now a b) }
+    {
+        if b.arrays < a.arrays {
+            return Ok(is_of_arrays(b.base));
+        }
+        if a.arrays < b.arrays {
+            return Ok(false);
+        }
+        if a.base == b.base {
+            return Ok(true);
+        }
+        if a.arrays == 0 {
+            self.leads_plainly(alloc, a.base, b.base)
+        } else {
+            self.leads_by_elements(alloc, a.base, b.base)
+        }
+    }
+
+    /// Whether a type has another above it, by their bases.
+    fn leads_plainly(&self, alloc: Global, a: u32, b: u32) -> Result<bool, NoMemory>
+        ensures { IfOk result (λ is. IsTrue is ↔ Leads (type_edges self.now false) (node_of a) (node_of b)) }
+    {
+        Ok(leads(alloc, &self.plain, node(a), node(b))?)
+    }
+
+    /// Whether arrays of a type may stand for arrays of another one.
+    fn leads_by_elements(&self, alloc: Global, a: u32, b: u32) -> Result<bool, NoMemory>
+        ensures { IfOk result (λ is. IsTrue is ↔ Leads (type_edges self.now true) (node_of a) (node_of b)) }
+    {
+        Ok(leads(alloc, &self.elements, node(a), node(b))?)
+    }
+
     #[tactic(auto, unfolding(crate::specs::Found::found), using(crate::proofs::FoundRows::ref_listed))]
     fn find(&self, token: u32) -> Option<Member>
         ensures { result ≡ found self.now token }
@@ -73,6 +130,13 @@ impl Members {
             self.types.named(token).map(Member::Named)
         }
     }
+}
+
+/// Whether a base is that of Array or of what it extends.
+fn is_of_arrays(base: u32) -> bool
+    ensures { IsTrue result ↔ IsOfArrays base }
+{
+    base == ROW_LIMIT + ARRAY || base == ROW_LIMIT + OBJECT
 }
 
 /// What a row finds, counted from 1, by what stands in a list for each; None for one past its end.

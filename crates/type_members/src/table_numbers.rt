@@ -8,6 +8,8 @@ pub const FIELDS: u8 = 0x04;
 
 pub const METHOD_DEFS: u8 = 0x06;
 
+pub const INTERFACE_IMPLS: u8 = 0x09;
+
 pub const MEMBER_REFS: u8 = 0x0A;
 
 pub const MODULE_REFS: u8 = 0x1A;

@@ -5,11 +5,11 @@ use Rattle.graph_cycles.specs.Cycles.Leads.{Along}
 use Rattle.graph_cycles.specs.Parts.{Continues, IsFollowed}
 use Rattle.graph_cycles.specs.declared.graph.Edge.{Edge}
 use Rattle.graph_cycles.proofs.Searching.{continues, kept_place, longer, reached_leads, all_reached}
-use Rattle.graph_cycles.proofs.search.is_on_cycle.Goals as goal
+use Rattle.graph_cycles.proofs.search.leads.Goals as goal
 
 pub loop-next-init : goal.loop-next-init
 loop-next-init c = record {
-  search = c.in_ok-follow.ensures.search c.args.node (λ to edge. Along edge) (c.in_ok-search.ensures.search c.args.node);
+  search = c.in_ok-follow.ensures.search c.args.from (λ to edge. Along edge) (c.in_ok-search.ensures.search c.args.from);
   marks = c.in_ok-follow.ensures.grows.marks ∙ c.in_ok-search.ensures.marks;
   first = c.in_ok-follow.ensures.followed;
   within = omega arith;
@@ -29,8 +29,8 @@ loop-next-preserved c =
     let same : (k : ℕ) → k < length before → get_or queue k 0 ≡ get_or before k 0 =
     λ k within. kept_place _ _ before queue k grows within in
     record {
-      search = c.in_ok-follow-2.ensures.search c.args.node
-          (subst (Continues edges c.args.node) read (continues edges c.args.node _ before c.loop-next.invariant.search c.loop-next.next here))
+      search = c.in_ok-follow-2.ensures.search c.args.from
+          (subst (Continues edges c.args.from) read (continues edges c.args.from _ before c.loop-next.invariant.search c.loop-next.next here))
           c.loop-next.invariant.search;
       marks = grows.marks ∙ c.loop-next.invariant.marks;
       first = λ to edge. grows.kept _ (c.loop-next.invariant.first to edge);
@@ -45,7 +45,7 @@ pub returns : goal.returns
 returns c =
     let end : length c.loop-next.search.queue.items ≤ c.loop-next.next = omega arith in
     rw c.has_reached.ensures (
-      reached_leads _ c.args.node _ _ c.loop-next.invariant.search,
-      all_reached _ c.args.node _ _ c.loop-next.invariant.search c.loop-next.invariant.first
-          (λ k within. c.loop-next.invariant.done k (omega arith)) c.args.node,
+      reached_leads _ c.args.from _ _ c.loop-next.invariant.search c.args.to,
+      all_reached _ c.args.from _ _ c.loop-next.invariant.search c.loop-next.invariant.first
+          (λ k within. c.loop-next.invariant.done k (omega arith)) c.args.to,
     )

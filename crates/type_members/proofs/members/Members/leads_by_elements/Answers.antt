@@ -1,0 +1,13 @@
+use Rattle.std.proofs.Common.{true, subst}
+use Rattle.std.specs.List.Sorted.{IsPermutation}
+use Rattle.type_model.specs.Module.{Module}
+use Rattle.type_members.specs.Subtypes.{type_edges, node}
+use Rattle.type_members.proofs.SubtypeCases.{nodes_told}
+use Rattle.type_members.proofs.members.Members.leads_by_elements.Goals as goal
+
+pub returns : goal.returns
+returns c =
+    let moved : IsPermutation (type_edges c.args.self.now true) c.self.inside.elements.edges.items =
+    subst (λ (m : Module). IsPermutation (type_edges m true) c.self.inside.elements.edges.items) c.self.view_is c.self.invariant.element_edges in
+    nodes_told (type_edges c.args.self.now true) c.self.inside.elements.edges.items moved
+    c.in_ok-leads.field-0 c.node.result c.node-2.result (node c.args.a) (node c.args.b) c.node.ensures c.node-2.ensures c.in_ok-leads.ensures
