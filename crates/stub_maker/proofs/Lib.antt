@@ -2,6 +2,7 @@ pub mod Alike
 pub mod BackSizes
 pub mod Calling
 pub mod Computed
+pub mod Crossings
 pub mod FieldOutlines
 pub mod Findings
 pub mod InField

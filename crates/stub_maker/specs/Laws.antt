@@ -1,5 +1,5 @@
 -- Laws of stubs.
-use Rattle.std.specs.Prelude.{◌≡◌, ℕ, ◌+◌, ◌≤◌, List, [], ◌∷◌, length, map, option_map, reverse, Option, Some, Ok}
+use Rattle.std.specs.Prelude.{◌≡◌, ℕ, Bool, true, ◌+◌, ◌≤◌, List, [], ◌∷◌, length, map, option_map, reverse, Option, Some, Ok}
 use Rattle.std.specs.List.{range_with_len}
 use Rattle.stub_maker.specs.declared.kinds.Passed.{Passed}
 use Rattle.stub_maker.specs.declared.stub.Stub.{Stub}
@@ -7,7 +7,8 @@ use Rattle.native_layout.specs.declared.shapes.Shape.{Shape}
 use Rattle.sig_reader.specs.declared.signature.Sig.{Sig, out-Sig}
 use Rattle.stub_maker.specs.declared.kinds.TypeKind.{TypeKind}
 use Rattle.stub_maker.specs.declared.stub.Back.{Back}
-use Rattle.stub_maker.specs.Shapes.{Known}
+use Rattle.stub_maker.specs.declared.table.Column.{Column}
+use Rattle.stub_maker.specs.Shapes.{Crosses, Known, crosses}
 use Rattle.stub_maker.specs.Callbacks.{back_of}
 use Rattle.stub_maker.specs.Steps.{argument_of}
 use Rattle.stub_maker.specs.declared.signature.Imported.{Imported}
@@ -68,3 +69,11 @@ pub record AreAlike (m : Module) (i j : Import) : Type 0 where
 -- imports that are alike have one stub, or one refusal, whatever they and their libraries and methods are called
 abbrev pub NamesDoNotMatter : Type 0
 NamesDoNotMatter = (m : Module) (i j : Import) → AreAlike m i j → stub_of_import m i ≡ stub_of_import m j
+
+-- the descriptors that are tried tell whether a type crosses in a column under any
+pub record IsTold (known : Known) (unicode : Bool) (column : Column) (type : TypeKind) : Type 0 where
+  pub there : crosses known unicode column type ≡ true → Crosses known unicode column type
+  pub told : Crosses known unicode column type → crosses known unicode column type ≡ true
+
+abbrev pub FiveDescriptorsTell : Type 0
+FiveDescriptorsTell = (known : Known) (unicode : Bool) (column : Column) (type : TypeKind) → IsTold known unicode column type

@@ -1,7 +1,7 @@
 //! Laws of stubs: each function's contract is one.
 
 ghost use Rattle.stub_maker.specs.Examples.{RowsAreAnswered};
-ghost use Rattle.stub_maker.specs.Laws.{BacksAreSized, BareShapesAreSized, KnownIsInOrder, NamesDoNotMatter, StubsAreOrderly, StubsAreSized};
+ghost use Rattle.stub_maker.specs.Laws.{BacksAreSized, BareShapesAreSized, FiveDescriptorsTell, KnownIsInOrder, NamesDoNotMatter, StubsAreOrderly, StubsAreSized};
 
 /// A stub has one step for each parameter, in order. Places and copies that native code may have written are read back, from
 /// left to right, and what ends does so from right to left.
@@ -39,4 +39,9 @@ pub fn bare_shapes_are_sized()
 /// one refusal, whatever they are called.
 pub fn names_do_not_matter()
     ensures { NamesDoNotMatter }
+{}
+
+/// Five descriptors tell whether a type crosses in a column at all: it does under one of them, or under none.
+pub fn five_descriptors_tell()
+    ensures { FiveDescriptorsTell }
 {}
