@@ -32,11 +32,17 @@ marshalled_field m f = marshalled_by m (2 * f)
 abbrev pub marshalled_param : Module → ℕ → Marshalled
 marshalled_param m p = marshalled_by m (2 * p + 1)
 
+-- the first row of Param in a method's run with a sequence
+unfoldable pub param_in_run : Module → ℕ → ℕ → Option ℕ
+param_in_run m n place =
+    find (λ p. cell m Rows.params p 1 == place) (run (Rows.first_param m n) (Rows.end_of_params m n))
+
 -- the row of Param of a place in a method's signature: 0 is the result, the parameters count from 1;
--- the first with that sequence (II.22.33)
+-- the first with that sequence (II.22.33). A method that is no row of MethodDef has none: a run that
+-- is read off a row that isn't there would be made of other methods' rows.
 unfoldable pub param_of : Module → ℕ → ℕ → Option ℕ
 param_of m n place =
-    find (λ p. cell m Rows.params p 1 == place) (run (Rows.first_param m n) (Rows.end_of_params m n))
+    if nat_le 1 n && nat_le n (row_count m Rows.method_defs) then param_in_run m n place else None
 
 -- the marks of a place, its ParamAttributes (II.23.1.13); none without a row
 unfoldable pub mark_of : Module → ℕ → ℕ → ℕ

@@ -57,7 +57,7 @@ pub fn copy_tables(alloc: Global, meta: &Meta<'_>) -> Result<Items<Table>, NoMem
 fn copy_rows(alloc: Global, meta: &Meta<'_>, table: u8) -> Result<Table, NoMemory>
     ensures { IfOk result (λ rows. rows ≡ table_of meta.now table) }
 {
-    let mut rows = Items::new(alloc);
+    let mut rows = Items::with_capacity(alloc, meta.rows(table) as usize)?;
     for n in 0..meta.rows(table) {
         match meta.row(table, n + 1) {
             Some(row) => rows.push(row)?,

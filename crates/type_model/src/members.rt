@@ -152,10 +152,22 @@ impl Types {
         }
     }
 
-    /// The row of Param of a place.
+    /// The row of Param of a place; None where there is no such row, or no such method.
     #[tactic(auto, unfolding(crate::specs::Members::param_of))]
     fn param_of(&self, method: u32, place: u32) -> Option<u64>
         ensures param { result ≡ definition.param_of self.now method place }
+        ensures few { IfSome result (λ param. param < 2 ^ 32) }
+    {
+        if method < 1 || self.image().row_count(METHOD_DEFS) < method {
+            return None;
+        }
+        self.param_in_run(method, place)
+    }
+
+    /// The first row of Param in a method's run with that sequence.
+    #[tactic(auto, unfolding(crate::specs::Members::param_in_run))]
+    fn param_in_run(&self, method: u32, place: u32) -> Option<u64>
+        ensures param { result ≡ definition.param_in_run self.now method place }
         ensures few { IfSome result (λ param. param < 2 ^ 32) }
     {
         let first = u64::from(self.image().cell(METHOD_DEFS, u64::from(method), 5));

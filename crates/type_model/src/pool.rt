@@ -68,7 +68,7 @@ pub fn share_offsets(
     ensures { IfOk result (λ shared. IsShared rows.now column shared.places shared.offsets) }
 {
     let mut known = vec![in alloc; 0; heap]?;
-    let mut places = Items::new(alloc);
+    let mut places = Items::with_capacity(alloc, rows.len())?;
     let mut offsets = Items::new(alloc);
     for row in rows {
         let place = place_of(&mut known, &mut offsets, row[column])?;

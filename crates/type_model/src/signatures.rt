@@ -20,7 +20,7 @@ pub fn spec_sigs(alloc: Global, image: &Module) -> Result<Pool<TypeSig>, NoMemor
     ensures { IfOk result (λ sigs. sigs ≡ map (spec_sig_in image.now) (rows image.now type_specs)) }
 {
     let shared = share_offsets(alloc, image.rows(TYPE_SPECS), 0, image.blob_heap_size())?;
-    let mut values = Items::new(alloc);
+    let mut values = Items::with_capacity(alloc, shared.offsets.len())?;
     for at in shared.offsets.as_slice() {
         values.push(type_in(alloc, image.blob(*at))?)?;
     }
@@ -32,7 +32,7 @@ pub fn field_sigs(alloc: Global, image: &Module) -> Result<Pool<TypeSig>, NoMemo
     ensures { IfOk result (λ sigs. sigs ≡ map (field_sig_in image.now) (rows image.now fields)) }
 {
     let shared = share_offsets(alloc, image.rows(FIELDS), 2, image.blob_heap_size())?;
-    let mut values = Items::new(alloc);
+    let mut values = Items::with_capacity(alloc, shared.offsets.len())?;
     for at in shared.offsets.as_slice() {
         values.push(field_type_in(alloc, image.blob(*at))?)?;
     }
@@ -44,7 +44,7 @@ pub fn method_sigs(alloc: Global, image: &Module) -> Result<Pool<Sig>, NoMemory>
     ensures { IfOk result (λ sigs. sigs ≡ map (sig_in image.now) (rows image.now method_defs)) }
 {
     let shared = share_offsets(alloc, image.rows(METHOD_DEFS), 4, image.blob_heap_size())?;
-    let mut values = Items::new(alloc);
+    let mut values = Items::with_capacity(alloc, shared.offsets.len())?;
     for at in shared.offsets.as_slice() {
         values.push(method_in(alloc, image.blob(*at))?)?;
     }
