@@ -36,7 +36,7 @@ use Rattle.stub_maker.specs.Crossing.{IsReturned}
 use Rattle.stub_maker.specs.Sized.{IsInOrder, IsSized, IsSizedBack, IsSizedReceived}
 use Rattle.stub_maker.specs.InOrder.{entered, entry_in_order, first_in_row, joined_some}
 use Rattle.stub_maker.proofs.Orderly.{and_then_ok, map_ok_ok, refused_at_ok}
-use Rattle.stub_maker.proofs.Sizes.{form_in_place, form_narrow, found_sized, found_some, laid_ok, laid_stands, not_inline, outside, result_sized, with_mark_ok}
+use Rattle.stub_maker.proofs.Sizes.{form_in_place, form_narrow, found_sized, found_some, laid_few, laid_ok, laid_shallow, laid_stands, not_inline, outside, result_sized, with_mark_ok}
 
 -- ---- callbacks
 
@@ -113,6 +113,11 @@ module _ (known : Known) (ordered : IsInOrder known) where
       } in
       subst IsSizedBack g.is made
 
+  pub answered_signature_sized : (s : Signature) (r : Result Back StubBad) → IsReturned r (back_of_signature known s) → IfOk r IsSizedBack
+  answered_signature_sized s (Ok back) h = signature_sized s back h
+  answered_signature_sized s (Err (Outside p w)) h = tt
+  answered_signature_sized s (Err Memory) h = tt
+
   pub back_sized : (invoke : Option Signature) (back : Back) → back_of known invoke ≡ Ok back → IsSizedBack back
   back_sized None back h = absurd (cc)
   back_sized (Some s) back h = signature_sized s back (plain_ok (is_plain_signature s) (back_of_signature known s) back h)
@@ -163,6 +168,8 @@ module _ (known : Known) (ordered : IsInOrder known) where
       let stands = laid_stands e.shape l in record {
         order = entry_in_order known ordered false column.Field k Nothing e h;
         stands = stands;
+        shallow = laid_shallow e.shape l;
+        few = laid_few e.shape l;
         narrow = bare_narrow i.row k e i.is stands;
       }
 

@@ -1,8 +1,10 @@
 pub mod Alike
 pub mod BackSizes
 pub mod Calling
+pub mod Chosen
 pub mod Computed
 pub mod Crossings
+pub mod Deep
 pub mod FieldOutlines
 pub mod Findings
 pub mod InField
@@ -10,6 +12,7 @@ pub mod Marking
 pub mod Monotone
 pub mod Numbered
 pub mod OneRow
+pub mod OnlyNeeds
 pub mod Orderly
 pub mod Receiving
 pub mod Rising
@@ -18,3 +21,4 @@ pub mod ShapesMade
 pub mod SigSteps
 pub mod Sizes
 pub mod Stepping
+pub mod StructsComputed

@@ -8,6 +8,8 @@ use Rattle.stub_maker.specs.declared.crossing.MarkedEntry.{MarkedEntry}
 use Rattle.stub_maker.specs.declared.table.Cell.{Cell}
 use Rattle.stub_maker.specs.declared.table.Column.{Column}
 use Rattle.stub_maker.specs.declared.stub.Mark.{Mark}
+use Rattle.stub_maker.specs.declared.stub.Res.{Res}
+use Rattle.stub_maker.specs.declared.stub.Step.{Step}
 use Rattle.stub_maker.specs.declared.refused.Why.{Why}
 use Rattle.stub_maker.specs.declared.refused.Why.TheVariants as why
 use Rattle.stub_maker.specs.Answers.{and_then, map_ok}
@@ -62,7 +64,7 @@ pub step_err : (known : Known) (k : ℕ) (w : Why) (r : Result Marked Why) → I
 step_err known k w (Err v) h = ap Err (sym h)
 step_err known k w (Ok n) h = absurd h
 
-pub step_ok : (known : Known) (k : ℕ) (m : MarkedEntry) (s : Shape) (r : Result Marked Why) → IsMarked known (Ok m) r
+step_ok : (known : Known) (k : ℕ) (m : MarkedEntry) (s : Shape) (r : Result Marked Why) → IsMarked known (Ok m) r
     → shape_of_form known m.found.form ≡ Some s → map_ok (step_by k) r ≡ Ok (step_in k m.found.cell m.mark s)
 step_ok known k m s (Err v) h e = absurd h
 step_ok known k m s (Ok n) h e =
@@ -71,6 +73,11 @@ step_ok known k m s (Ok n) h e =
     ap (λ (c : Cell). Ok (step_in k c n.mark n.entry.shape)) (sym h.entry.cell)
     ∙ (ap (λ (x : Mark). Ok (step_in k m.found.cell x n.entry.shape)) (sym h.mark)
     ∙ ap (λ (x : Shape). Ok (step_in k m.found.cell m.mark x)) same)
+
+-- the step that is made of it
+pub step_made : (known : Known) (k : ℕ) (m : MarkedEntry) (s : Shape) (r : Result Marked Why) (made : Step) → IsMarked known (Ok m) r
+    → shape_of_form known m.found.form ≡ Some s → made ≡ step_in k m.found.cell m.mark s → map_ok (step_by k) r ≡ Ok made
+step_made known k m s r made h e is = step_ok known k m s r h e ∙ ap Ok (sym is)
 
 -- a result's layout is found of what is found
 pub laid_ok : (known : Known) (f : Found) (r : Result Entry Why) → IsChosen known (Ok f) r → f.contents.laid_out ≡ true
@@ -104,10 +111,15 @@ pub result_err : (known : Known) (w : Why) (r : Result Entry Why) → IsLaid kno
 result_err known w (Err v) h = ap Err (sym h)
 result_err known w (Ok e) h = absurd h
 
-pub result_ok : (known : Known) (f : Found) (s : Shape) (r : Result Entry Why) → IsLaid known (Ok f) r
+result_ok : (known : Known) (f : Found) (s : Shape) (r : Result Entry Why) → IsLaid known (Ok f) r
     → shape_of_form known f.form ≡ Some s → map_ok returned_by r ≡ Ok (returned_in f.cell s)
 result_ok known f s (Err v) h e = absurd h
 result_ok known f s (Ok x) h e =
     let there : Some x.shape ≡ Some s = sym h.0.shape ∙ e in
     let same : x.shape ≡ s = cc in
     ap (λ (c : Cell). Ok (returned_in c x.shape)) (sym h.0.cell) ∙ ap (λ (y : Shape). Ok (returned_in f.cell y)) same
+
+-- the result that is made of it
+pub result_made : (known : Known) (f : Found) (s : Shape) (r : Result Entry Why) (made : Res) → IsLaid known (Ok f) r
+    → shape_of_form known f.form ≡ Some s → made ≡ returned_in f.cell s → map_ok returned_by r ≡ Ok made
+result_made known f s r made h e is = result_ok known f s r h e ∙ ap Ok (sym is)

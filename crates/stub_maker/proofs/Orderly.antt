@@ -21,6 +21,7 @@ use Rattle.stub_maker.specs.declared.signature.Imported.{Imported}
 use Rattle.stub_maker.specs.declared.signature.Signature.{Signature}
 use Rattle.stub_maker.specs.Rules.{Marked, Refused, each_from, is_plain_signature, is_read_back, marked, may_lend, refused_at, returned, step_by, step_of, stub_by, stub_by_signature, stub_of, stub_of_signature, whole}
 use Rattle.stub_maker.specs.Laws.{IsOrderly, RiseFrom}
+use Rattle.stub_maker.proofs.Chosen.{back_is, ends_are}
 
 -- where what follows an answer is an answer, there was one before
 pub record Followed {A B E : Type 0} (next : A → Result B E) (r : Result A E) (b : B) : Type 0 where
@@ -110,8 +111,9 @@ orderly_parts known i s stub e =
     let n : map argument_of f.value ≡ range_with_len 0 (length s.params) = steps_numbered known i.unicode 0 s.params f.value f.was in
     let made : IsOrderly s.params (stub_by i.saves_error f.value g.value) = record {
       steps = n;
-      back = refl;
+      back = back_is (length s.params) f.value n;
       back_rises = chosen_rise is_read_back 0 (length s.params) f.value n;
+      ends = ends_are (length s.params) f.value n;
       ends_fall = subst (RiseFrom 0) (sym (reverse-reverse (map argument_of (filter may_lend f.value)))) (chosen_rise may_lend 0 (length s.params) f.value n);
     } in
     subst (IsOrderly s.params) g.is made

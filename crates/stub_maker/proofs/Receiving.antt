@@ -58,6 +58,16 @@ received_more f ps i d l a within e h =
     ∙ (ap Ok (lists_more m.value a)
     ∙ ap (λ (x : ReceivedParams). Ok (record { received = x.received ++ a.received ∷ []; marks = x.marks ++ a.mark ∷ [] })) m.is)
 
+-- the lists when it has been pushed onto both
+pub received_pushed : (f : ℕ → Passed → Result ReceivedMark Why) (ps : List Passed) (i : ℕ) (d : Passed) (l : ReceivedParams) (a : ReceivedMark) (rs : List Received) (ms : List Mark)
+    → i < length ps → map_ok in_lists (each_from f 0 (take i ps)) ≡ Ok l → f i (get_or ps i d) ≡ Ok a
+    → rs ≡ l.received ++ a.received ∷ [] → ms ≡ l.marks ++ a.mark ∷ []
+    → map_ok in_lists (each_from f 0 (take (i + 1) ps)) ≡ Ok (lists rs ms)
+received_pushed f ps i d l a rs ms within e h pushed marked =
+    received_more f ps i d l a within e h
+    ∙ (ap (λ (x : List Received). Ok (lists x (l.marks ++ a.mark ∷ []))) (sym pushed)
+    ∙ ap (λ (y : List Mark). Ok (lists rs y)) (sym marked))
+
 -- one that has no row
 pub received_fails : (f : ℕ → Passed → Result ReceivedMark Why) (ps : List Passed) (i : ℕ) (d : Passed) (l : ReceivedParams) (bad : StubBad)
     → i < length ps → map_ok in_lists (each_from f 0 (take i ps)) ≡ Ok l → IsStep {A = ReceivedMark} (Arg i) (Err bad) (f i (get_or ps i d))

@@ -39,7 +39,7 @@ there None h = absurd (cc)
 there (Some a) h = (a, refl)
 
 -- a value type that is known has the shape that its fields give by what is known
-known_shape : (facts : TypeFacts) (n t : ℕ) (f : StructFacts) (s : StructShape) → facts.struct_of t ≡ Some f → (known_after facts n).struct_of t ≡ Some s
+pub known_shape : (facts : TypeFacts) (n t : ℕ) (f : StructFacts) (s : StructShape) → facts.struct_of t ≡ Some f → (known_after facts n).struct_of t ≡ Some s
     → struct_shape (known_after facts n) f ≡ Some s
 unfolding known_after
 known_shape facts zero t f s is known = absurd (cc)

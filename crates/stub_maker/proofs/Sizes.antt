@@ -182,6 +182,22 @@ laid_stands s h =
     left_true (measure s).stands (nat_le (nesting s) deepest)
     (left_true ((measure s).stands && nat_le (nesting s) deepest) (nat_le (parts_of s) most_parts) h)
 
+both_true : (a b : Bool) → (a && b) ≡ true → b ≡ true
+both_true true b h = h
+both_true false b h = absurd (cc)
+
+within : (n m : ℕ) → nat_le n m ≡ true → n ≤ m
+within n m h = grind (arith, nat_tests)
+
+pub laid_shallow : (s : Shape) → is_laid_out s ≡ true → nesting s ≤ deepest
+laid_shallow s h =
+    within (nesting s) deepest
+    (both_true (measure s).stands (nat_le (nesting s) deepest)
+    (left_true ((measure s).stands && nat_le (nesting s) deepest) (nat_le (parts_of s) most_parts) h))
+
+pub laid_few : (s : Shape) → is_laid_out s ≡ true → parts_of s ≤ most_parts
+laid_few s h = within (parts_of s) most_parts (both_true ((measure s).stands && nat_le (nesting s) deepest) (nat_le (parts_of s) most_parts) h)
+
 pub found_some : (known : Known) (u : Bool) (c : Column) (p : Passed) (e : Entry) (o : Option Entry) → found_entry known u c p o ≡ Ok e → o ≡ Some e
 found_some known u c p e (Some x) h = let same : x ≡ e = cc in ap Some same
 found_some known u c p e None h = absurd (cc)
@@ -293,6 +309,8 @@ module _ (known : Known) (ordered : IsInOrder known) where
       let stands = laid_stands e.shape l in record {
         order = entry_in_order known ordered u c type d e h;
         stands = stands;
+        shallow = laid_shallow e.shape l;
+        few = laid_few e.shape l;
         narrow = row_narrow u i.row c n type d e i.is (entered (cell_at i.row c) (shape_by known u i.row type d) e i.is) stands;
       }
 
@@ -342,6 +360,11 @@ module _ (known : Known) (ordered : IsInOrder known) where
         result_way = result_sized i.unicode column.Returned (λ same. cc) s.result g.value (refused_at_ok TheResult (returned known i.unicode column.Returned s.result) g.value g.was);
       } in
       subst IsSizedStub g.is made
+
+  pub answered_signature_sized : (i : Imported) (s : Signature) (r : Result Stub StubBad) → IsReturned r (stub_of_signature known i s) → IfOk r IsSizedStub
+  answered_signature_sized i s (Ok stub) h = signature_sized i s stub h
+  answered_signature_sized i s (Err (Outside p w)) h = tt
+  answered_signature_sized i s (Err Memory) h = tt
 
   optional_sized : (i : Imported) (o : Option Signature) (stub : Stub) → stub_by_signature known i o ≡ Ok stub → IsSizedStub stub
   optional_sized i None stub h = absurd (cc)

@@ -21,10 +21,15 @@ use Rattle.stub_maker.specs.declared.stub.Received.TheVariants as received
 use Rattle.stub_maker.specs.declared.stub.Res.{Res}
 use Rattle.stub_maker.specs.declared.stub.Res.TheVariants as res
 use Rattle.stub_maker.specs.declared.refused.Why.{Why}
-use Rattle.stub_maker.specs.declared.refused.Why.TheVariants.{Type0, Descriptor as WrongDescriptor, Mark as WrongMark}
+use Rattle.stub_maker.specs.declared.refused.Why.TheVariants.{Type0, Descriptor as WrongDescriptor, Mark as WrongMark, Layout as NoLayout, PreserveSig}
+use Rattle.stub_maker.specs.declared.refused.Param.{Param}
+use Rattle.stub_maker.specs.declared.refused.Param.TheVariants.{Arg, Result as TheResult, Whole}
+use Rattle.stub_maker.specs.declared.signature.Imported.{Imported}
+use Rattle.stub_maker.specs.declared.signature.Signature.{Signature}
+use Rattle.stub_maker.specs.declared.stub.Stub.{Stub}
 use Rattle.stub_maker.specs.Answers.{map_ok}
 use Rattle.stub_maker.specs.Shapes.{Known}
-use Rattle.stub_maker.specs.Rules.{returned, step_of}
+use Rattle.stub_maker.specs.Rules.{Refused, returned, step_of, stub_of}
 use Rattle.stub_maker.specs.Callbacks.{received_of}
 use Rattle.stub_maker.specs.declared.facts.FieldFacts.{FieldFacts}
 use Rattle.stub_maker.specs.Facts.{field_shape}
@@ -173,6 +178,102 @@ result_rows =
     ∷ row (as_code 0x09 (plain int)) (Err WrongDescriptor)
     ∷ []
 
+-- a type of the file by its row, where it is a value type
+abbrev pub struct : ℕ → TypeKind
+struct t = One (kind.Struct t)
+
+-- value types as parameters of imports
+abbrev pub struct_rows : List (Row Step)
+struct_rows =
+    row (plain (struct 2)) (Ok (step.Value 0 (shape.Struct two_longs)))
+    ∷ row (as_code 0x1B (plain (struct 2))) (Ok (step.Value 0 (shape.Struct two_longs)))
+    ∷ row (as_code 0x07 (plain (struct 2))) (Err WrongDescriptor)
+    ∷ row (flagged 2 (plain (struct 2))) (Err WrongMark)
+    ∷ row (by_reference (plain (struct 2))) (Ok (step.Place 0 Both (shape.Struct two_longs)))
+    ∷ row (flagged 1 (by_reference (plain (struct 2)))) (Ok (step.Place 0 Give (shape.Struct two_longs)))
+    ∷ row (plain (Array 2 (kind.Struct 2))) (Ok (step.Lend 0 (shape.Struct two_longs)))
+    ∷ row (by_reference (plain (Array 2 (kind.Struct 2)))) (Err Type0)
+    ∷ row (plain (struct 4)) (Ok (step.Value 0 (shape.Struct with_text)))
+    ∷ row (flagged 2 (by_reference (plain (struct 4)))) (Ok (step.Place 0 Take (shape.Struct with_text)))
+    ∷ row (plain (Array 4 (kind.Struct 4))) (Ok (step.Copy 0 Give (shape.Struct with_text)))
+    ∷ row (flagged 3 (plain (Array 4 (kind.Struct 4)))) (Ok (step.Copy 0 Both (shape.Struct with_text)))
+    ∷ row (plain (struct 6)) (Err NoLayout)
+    ∷ row (by_reference (plain (struct 6))) (Err NoLayout)
+    ∷ row (flagged 2 (plain (struct 6))) (Err WrongMark)
+    ∷ []
+
+-- value types as results of imports
+abbrev pub struct_result_rows : List (Row Res)
+struct_result_rows =
+    row (plain (struct 2)) (Ok (res.Value (shape.Struct two_longs)))
+    ∷ row (plain (struct 3)) (Ok (res.Value (shape.Struct three_longs)))
+    ∷ row (plain (struct 4)) (Err Type0)
+    ∷ row (plain (struct 6)) (Err NoLayout)
+    ∷ row (by_reference (plain (struct 2))) (Err Type0)
+    ∷ []
+
+-- imports as a whole: a static method whose signature is preserved
+abbrev pub import_with : Option Signature → Imported
+import_with signature = record {
+  preserves_signature = true;
+  is_static = true;
+  signature = signature;
+  unicode = false;
+  saves_error = true;
+}
+
+abbrev pub signature_with : List Passed → Option Passed → Signature
+signature_with params result_way = record { vararg = false; generic = 0; params = params; result = result_way }
+
+abbrev pub no_params : Signature
+no_params = signature_with [] None
+
+-- what has no row in an import
+abbrev pub refused : Param → Why → Result Stub Refused
+refused param why = Err (record { param = param; why = why })
+
+-- an import, and what it is answered
+pub record ImportRow : Type 0 where
+  pub imported : Imported
+  pub says : Result Stub Refused
+
+abbrev import_row : Imported → Result Stub Refused → ImportRow
+import_row imported says = record { imported = imported; says = says }
+
+-- a handle, a struct in words, one that isn't, one that holds a text, a place that native code writes, a place that it doesn't, and
+-- an array that is lent
+abbrev pub seven_params : List Passed
+seven_params =
+    plain (One kind.Handle) ∷ plain (struct 2) ∷ plain (struct 3) ∷ plain (struct 4) ∷ flagged 2 (by_reference (plain int))
+    ∷ flagged 1 (by_reference (plain int)) ∷ plain ints ∷ []
+
+abbrev pub stub_of_seven : Stub
+stub_of_seven = record {
+  steps =
+      step.Hold 0 ∷ step.Value 1 (shape.Struct two_longs) ∷ step.Value 2 (shape.Struct three_longs)
+      ∷ step.Value 3 (shape.Struct with_text) ∷ step.Place 4 Take (shape.Int 4 true) ∷ step.Place 5 Give (shape.Int 4 true)
+      ∷ step.Lend 6 (shape.Int 4 true) ∷ [];
+  back = 4 ∷ [];
+  ends = 6 ∷ 5 ∷ 4 ∷ 3 ∷ 2 ∷ 0 ∷ [];
+  result = res.Word (shape.Int 4 true);
+  errno = true;
+}
+
+abbrev pub stub_rows : List ImportRow
+stub_rows =
+    import_row (import_with (Some (signature_with seven_params (Some (plain int))))) (Ok stub_of_seven)
+    ∷ import_row (record (import_with (Some no_params)) { preserves_signature = false }) (refused Whole PreserveSig)
+    ∷ import_row (record (import_with None) { preserves_signature = false }) (refused Whole PreserveSig)
+    ∷ import_row (import_with None) (refused Whole Type0)
+    ∷ import_row (record (import_with (Some no_params)) { is_static = false }) (refused Whole Type0)
+    ∷ import_row (import_with (Some (record no_params { vararg = true }))) (refused Whole Type0)
+    ∷ import_row (import_with (Some (record no_params { generic = 1 }))) (refused Whole Type0)
+    ∷ import_row
+    (import_with (Some (signature_with (plain int ∷ flagged 2 (plain int) ∷ plain (One kind.Other) ∷ []) (Some (plain ints)))))
+    (refused (Arg 1) WrongMark)
+    ∷ import_row (import_with (Some (signature_with (plain int ∷ []) (Some (plain ints))))) (refused TheResult Type0)
+    ∷ []
+
 -- parameters of callbacks, of which number 0 is an int, number 1 an array of ints, and number 2 a bool
 abbrev pub callback_params : List Passed
 callback_params = plain int ∷ plain ints ∷ plain (One kind.Boolean) ∷ []
@@ -200,6 +301,19 @@ callback_rows =
     (Ok (received.Copy 6 (shape.Char 2) (Some 3) None))
     ∷ row (plain (One (kind.Delegate 10))) (Err Type0)
     ∷ row (plain (One kind.Handle)) (Err Type0)
+    ∷ []
+
+-- value types as parameters of callbacks
+abbrev pub struct_callback_rows : List (Row Received)
+struct_callback_rows =
+    row (plain (struct 2)) (Ok (received.Value (shape.Struct two_longs)))
+    ∷ row (plain (struct 4)) (Ok (received.Value (shape.Struct with_text)))
+    ∷ row (by_reference (plain (struct 2))) (Ok (received.Place (shape.Struct two_longs)))
+    ∷ row (by_reference (plain (struct 4))) (Err Type0)
+    ∷ row (array_as None None (Some 3) None (plain (Array 2 (kind.Struct 2))))
+    (Ok (received.Copy 2 (shape.Struct two_longs) (Some 3) None))
+    ∷ row (array_as None None (Some 3) None (plain (Array 4 (kind.Struct 4)))) (Err Type0)
+    ∷ row (plain (struct 6)) (Err NoLayout)
     ∷ []
 
 -- results of callbacks
@@ -231,6 +345,23 @@ field_shapes =
     ∷ Some (shape.Thunk 10)
     ∷ None ∷ []
 
+-- value types as fields, and fields of a type whose charset is Unicode
+abbrev pub struct_fields : List FieldFacts
+struct_fields =
+    field (struct 2) Nothing ∷ field (struct 4) Nothing ∷ field (struct 5) Nothing
+    ∷ field (Array 2 (kind.Struct 2)) (Is (ByValArray 4 None)) ∷ field (Array 4 (kind.Struct 4)) (Is (ByValArray 4 None))
+    ∷ record (field (One kind.Text) Nothing) { unicode = true }
+    ∷ record (field (One kind.Text) (Is (ByValText 4))) { unicode = true }
+    ∷ record (field (One kind.Character) Nothing) { unicode = true } ∷ []
+
+abbrev pub struct_field_shapes : List (Option Shape)
+struct_field_shapes =
+    Some (shape.Struct two_longs) ∷ Some (shape.Struct with_text) ∷ None
+    ∷ Some (shape.InlineArray 2 (shape.Struct two_longs) 4) ∷ None
+    ∷ Some (shape.Text Utf16)
+    ∷ Some (shape.InlineText Utf16 4)
+    ∷ Some (shape.Char 2) ∷ []
+
 abbrev said : {A : Type 0} → List (Row A) → List (Result A Why)
 said rows = map (λ r. r.says) rows
 
@@ -246,3 +377,11 @@ pub record RowsAreAnswered : Type 0 where
       map (λ r. returned some_types false column.CallbackReturned (Some r.passed)) callback_result_rows
       ≡ said callback_result_rows
   pub in_structs : map (field_shape some_types) fields ≡ field_shapes
+  pub structs : map (λ r. step_of some_types false 0 r.passed) struct_rows ≡ said struct_rows
+  pub struct_results :
+      map (λ r. returned some_types false column.Returned (Some r.passed)) struct_result_rows ≡ said struct_result_rows
+  pub struct_callbacks : map (λ r. received_row r.passed) struct_callback_rows ≡ said struct_callback_rows
+  pub struct_callback_results :
+      map (λ r. returned some_types false column.CallbackReturned (Some r.passed)) struct_result_rows ≡ said struct_result_rows
+  pub structs_in_structs : map (field_shape some_types) struct_fields ≡ struct_field_shapes
+  pub stubs : map (λ r. stub_of some_types r.imported) stub_rows ≡ map (λ r. r.says) stub_rows

@@ -102,14 +102,14 @@ both_true : (a b : Bool) → a ≡ true → b ≡ true → (a && b) ≡ true
 both_true true b x y = y
 both_true false b x y = absurd (cc)
 
-record AllThere {A : Type 0} (o : Option A) (os : List (Option A)) (values : List A) : Type 0 where
+pub record AllThere {A : Type 0} (o : Option A) (os : List (Option A)) (values : List A) : Type 0 where
   pub first : A
   pub others : List A
   pub was : o ≡ Some first
   pub were : all_some os ≡ Some others
   pub are : first ∷ others ≡ values
 
-all_there : {A : Type 0} (o : Option A) (os : List (Option A)) (values : List A) → all_some (o ∷ os) ≡ Some values → AllThere o os values
+pub all_there : {A : Type 0} (o : Option A) (os : List (Option A)) (values : List A) → all_some (o ∷ os) ≡ Some values → AllThere o os values
 all_there None os values h = absurd (cc)
 all_there {A} (Some a) os values h =
     let m = mapped_some (λ (rest : List A). a ∷ rest) (all_some os) values h in

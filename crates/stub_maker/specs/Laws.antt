@@ -1,9 +1,13 @@
 -- Laws of stubs.
-use Rattle.std.specs.Prelude.{◌≡◌, ℕ, Bool, true, ◌+◌, ◌≤◌, List, [], ◌∷◌, length, map, option_map, reverse, Option, Some, Ok}
+use Rattle.std.specs.Prelude.{◌≡◌, ◌≢◌, ◌↔◌, ◌⊎◌, ℕ, Bool, true, ◌+◌, ◌<◌, ◌≤◌, List, [], ◌∷◌, length, map, option_map, reverse, slice_get, Option, Some, Ok, IsSomeAnd, IsTrue, Contains}
 use Rattle.std.specs.List.{range_with_len}
 use Rattle.stub_maker.specs.declared.kinds.Passed.{Passed}
+use Rattle.stub_maker.specs.declared.stub.Mark.TheVariants.{Give}
+use Rattle.stub_maker.specs.declared.stub.Step.{Step}
+use Rattle.stub_maker.specs.declared.stub.Step.TheVariants as step
 use Rattle.stub_maker.specs.declared.stub.Stub.{Stub}
 use Rattle.native_layout.specs.declared.shapes.Shape.{Shape}
+use Rattle.native_layout.specs.Shapes.{texts_in}
 use Rattle.sig_reader.specs.declared.signature.Sig.{Sig, out-Sig}
 use Rattle.stub_maker.specs.declared.kinds.TypeKind.{TypeKind}
 use Rattle.stub_maker.specs.declared.stub.Back.{Back}
@@ -13,7 +17,8 @@ use Rattle.stub_maker.specs.Callbacks.{back_of}
 use Rattle.stub_maker.specs.Steps.{argument_of}
 use Rattle.stub_maker.specs.declared.signature.Imported.{Imported}
 use Rattle.stub_maker.specs.declared.signature.Signature.{Signature}
-use Rattle.stub_maker.specs.Rules.{read_back, stub_of}
+use Rattle.stub_maker.specs.Extents.{size}
+use Rattle.stub_maker.specs.Rules.{greatest_in_words, stub_of}
 use Rattle.type_model.specs.Module.{Module}
 use Rattle.type_model.specs.Members.{Import, mark_of, marshalled, method, sig_of}
 use Rattle.stub_maker.specs.Described.{bare_shape, known_of, stub_of_import}
@@ -24,12 +29,31 @@ abbrev pub RiseFrom : ℕ → List ℕ → Type 0
 RiseFrom bound [] = Unit {0}
 RiseFrom bound (n ∷ ns) = (bound ≤ n) × RiseFrom (n + 1) ns
 
--- a stub of these parameters has one step for each, in order; it reads back places and copies alone, from left to right; and
--- what ends does so from right to left
+-- native code may have written what is there: a place, or a copy, that isn't given to it alone
+abbrev pub ComesBack : Step → Type 0
+ComesBack (step.Place k mark shape) = mark ≢ Give
+ComesBack (step.Copy k mark shape) = mark ≢ Give
+ComesBack _ = ⊥
+
+-- a step may lend native code something that ends with the call: a handle that is held, a text, a place, an array or its copy, and of
+-- a struct its copy, where it isn't passed in words, and its texts
+abbrev pub MayLend : Step → Type 0
+MayLend (step.Hold k) = Unit {0}
+MayLend (step.Word k shape) = ⊥
+MayLend (step.Text k encoding) = Unit {0}
+MayLend (step.Value k shape) = (greatest_in_words < size shape) ⊎ IsTrue (texts_in shape)
+MayLend (step.Place k mark shape) = Unit {0}
+MayLend (step.Lend k shape) = Unit {0}
+MayLend (step.Copy k mark shape) = Unit {0}
+MayLend (step.Thunk k) = ⊥
+
+-- A stub of these parameters has one step for each, in order. It reads back just the arguments whose steps come back, from left to
+-- right; and just those end whose steps may lend something, from right to left.
 pub record IsOrderly (params : List Passed) (stub : Stub) : Type 0 where
   pub steps : map argument_of stub.steps ≡ range_with_len 0 (length params)
-  pub back : stub.back ≡ read_back stub.steps
+  pub back : (k : ℕ) → Contains stub.back k ↔ IsSomeAnd (slice_get stub.steps k) ComesBack
   pub back_rises : RiseFrom 0 stub.back
+  pub ends : (k : ℕ) → Contains stub.ends k ↔ IsSomeAnd (slice_get stub.steps k) MayLend
   pub ends_fall : RiseFrom 0 (reverse stub.ends)
 
 abbrev pub StubsAreOrderly : Type 0

@@ -11,6 +11,7 @@ pub mod InOrder
 pub mod Laws
 pub mod Learned
 pub mod LearnedOrder
+pub mod Needs
 pub mod Printed
 pub mod Rules
 pub mod Shapes

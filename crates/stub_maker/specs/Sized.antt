@@ -1,10 +1,10 @@
 -- What can be printed: each shape of it is in order and laid out, and its size is a number of 64 bits.
-use Rattle.std.specs.Prelude.{◌≡◌, ℕ, ◌^◌, ◌<◌, All, IsTrue, Some}
+use Rattle.std.specs.Prelude.{◌≡◌, ℕ, ◌^◌, ◌<◌, ◌≤◌, All, IsTrue, Some}
 use Rattle.native_layout.specs.declared.shapes.Shape.{Shape}
 use Rattle.native_layout.specs.declared.shapes.StructShape.{StructShape}
-use Rattle.native_layout.specs.Shapes.{in_order, measure, struct_in_order}
+use Rattle.native_layout.specs.Shapes.{in_order, measure, nesting, parts_of, struct_in_order}
 use Rattle.stub_maker.specs.Shapes.{Known}
-use Rattle.stub_maker.specs.Extents.{size}
+use Rattle.stub_maker.specs.Extents.{deepest, most_parts, size}
 use Rattle.stub_maker.specs.declared.stub.Step.{Step}
 use Rattle.stub_maker.specs.declared.stub.Step.TheVariants as step
 use Rattle.stub_maker.specs.declared.stub.Res.{Res}
@@ -18,9 +18,13 @@ use Rattle.stub_maker.specs.declared.stub.Back.{Back}
 abbrev pub IsInOrder : Known → Type 0
 IsInOrder known = (t : ℕ) (s : StructShape) → known.struct_of t ≡ Some s → IsTrue (struct_in_order s)
 
+-- a shape that is in order and laid out: each struct in it is, it isn't too deep, and it hasn't too many scalar parts; and whose
+-- size is a number of 64 bits
 pub record IsSized (shape : Shape) : Type 0 where
   pub order : IsTrue (in_order shape)
   pub stands : IsTrue (measure shape).stands
+  pub shallow : nesting shape ≤ deepest
+  pub few : parts_of shape ≤ most_parts
   pub narrow : size shape < 2 ^ 64
 
 abbrev pub IsSizedStep : Step → Type 0

@@ -1,13 +1,21 @@
 //! The order in which the types of a file are looked at, so that what one needs is known before it.
 
+ghost use Rattle.std.specs.Prelude.{◌<◌, ◌^◌};
 ghost use Rattle.stub_maker.specs.Described.{AreKinds};
 
-use crate::facts::{invoke_signature, struct_facts};
+use crate::facts::invoke_signature;
 use crate::kinds::{Kind, TypeKind};
-use crate::kinds_of_types::{Kinds, TYPE_DEFS};
+use crate::kinds_of_types::{Kinds, TYPE_DEFS, kind_of, sig_kind, type_kind};
 use bound_base::{Items, NoMemory};
+use managed_value::TypeId;
 use std::alloc::Global;
 use type_model::Types;
+
+/// The table of metadata that has a row for each field (ECMA-335 II.22.15).
+const FIELDS: u8 = 0x04;
+
+/// The flag of a static field (II.23.1.5).
+const STATIC: u32 = 0x10;
 
 /// What may be known of a type of the file, by its row of TypeDef.
 #[derive(Clone, Copy, Debug, PartialEq, Eq)]
@@ -36,7 +44,8 @@ struct Walk {
     order: Items<Need>,
 }
 
-/// The needs of a file's types: what one needs comes before it, unless that needs itself. Each is listed once.
+/// The needs of a file's types: what one needs comes before it, unless that needs itself, and so does what it extends. Each is
+/// listed once. Time and memory grow with the file.
 pub fn needs_in_order(alloc: Global, types: &Types, kinds: &Kinds) -> Result<Items<Need>, NoMemory>
     requires { AreKinds types.now kinds.now }
 {
@@ -94,7 +103,7 @@ impl Walk {
         }
         self.turns.push(Turn::From(need))?;
         match need {
-            Need::Struct(t) => self.enter_fields(alloc, types, kinds, t),
+            Need::Struct(t) => self.enter_fields(types, kinds, t),
             Need::Delegate(t) => self.enter_params(alloc, types, kinds, t),
         }
     }
@@ -107,21 +116,35 @@ impl Walk {
         }
     }
 
-    fn enter_fields(
-        &mut self,
-        alloc: Global,
-        types: &Types,
-        kinds: &Kinds,
-        t: u32,
-    ) -> Result<(), NoMemory>
+    /// Goes on to what a value type extends, whose fields it has too, and to what its own fields name. So each field is looked
+    /// at once, however many types inherit it.
+    fn enter_fields(&mut self, types: &Types, kinds: &Kinds, t: u32) -> Result<(), NoMemory>
         requires { AreKinds types.now kinds.now }
     {
-        if let Some(facts) = struct_facts(alloc, types, kinds, t)? {
-            for field in facts.fields.as_slice() {
-                self.turn_to(field.kind)?;
-            }
+        let Kind::Struct(_) = kind_of(types, kinds, t) else {
+            return Ok(());
+        };
+        if let Some(base) = types.extends_of(TypeId { base: t, arrays: 0 }) {
+            self.turn_to(type_kind(types, kinds, base))?;
+        }
+        let first = u64::from(types.image().cell(TYPE_DEFS, u64::from(t), 4));
+        for field in first..types.image().run_end(TYPE_DEFS, t, 4, FIELDS) {
+            self.enter_field(types, kinds, field)?;
         }
         Ok(())
+    }
+
+    fn enter_field(&mut self, types: &Types, kinds: &Kinds, field: u64) -> Result<(), NoMemory>
+        requires kinds { AreKinds types.now kinds.now }
+        requires row { field < 2 ^ 32 }
+    {
+        match types.field(field as u32) {
+            Some(known) if known.flags & STATIC == 0 => match known.sig {
+                Some(sig) => self.turn_to(sig_kind(types, kinds, sig)),
+                None => Ok(()),
+            },
+            _ => Ok(()),
+        }
     }
 
     fn enter_params(

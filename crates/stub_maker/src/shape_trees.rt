@@ -1,11 +1,12 @@
 //! The shapes of a file's types, made as trees.
 
-ghost use Rattle.std.specs.Prelude.{◌≡◌, IfOk, map};
+ghost use Rattle.std.specs.Prelude.{◌≡◌, ◌+◌, IfOk, map};
 ghost use Rattle.std.specs.Option.{option_map};
+ghost use Rattle.native_layout.specs.Shapes.{nesting};
 ghost use Rattle.stub_maker.specs.Described.{known_of};
 ghost use Rattle.stub_maker.specs.Facts.{all_some, field_shape};
 ghost use Rattle.stub_maker.specs.Shapes.{shape_of_form};
-ghost use Rattle.stub_maker.specs.Trees.{IsTree};
+ghost use Rattle.stub_maker.specs.Trees.{IsTree, deepest_of};
 
 use crate::entries::{KnownTypes, ShapedTypes};
 use crate::facts::{FieldFacts, StructFacts, struct_facts};
@@ -20,15 +21,12 @@ use std::alloc::Global;
 
 impl<'a> ShapedTypes for FileTypes<'a> {
     fn shape(&self, alloc: Global, form: Form) -> Result<Shape, NoMemory> {
-        match form_tree(alloc, self, form, MOST_NESTING)? {
-            Some(shape) => Ok(shape),
-            // A form that is laid out is at most so deep.
-            None => Err(NoMemory),
-        }
+        // A form that is laid out has a shape, and that is at most so deep.
+        Ok(form_tree(alloc, self, form, MOST_NESTING)?.unwrap())
     }
 }
 
-/// The shape of a form, made at most `left` levels deep; None where it has none or is deeper.
+/// The shape of a form, made at most `left` levels deep; None exactly where it has none or is deeper.
 #[cycle(trees)]
 fn form_tree(
     alloc: Global,
@@ -36,40 +34,20 @@ fn form_tree(
     form: Form,
     left: u32,
 ) -> Result<Option<Shape>, NoMemory>
-    ensures { IfOk result (λ found. IsTree found (shape_of_form (known_of known.now) form)) }
+    ensures { IfOk result (λ found. IsTree nesting left found (shape_of_form (known_of known.now) form)) }
 {
-    match form {
-        Form::Struct(t) => {
-            if left == 0 {
-                Ok(None)
-            } else {
-                struct_tree(alloc, known, t, left - 1)
-            }
-        }
-        _ => Ok(plain_shape(known, form)),
-    }
-}
-
-/// The shape of a form that names no value type.
-fn plain_shape(known: &FileTypes<'_>, form: Form) -> Option<Shape>
-    ensures { IsTree result (shape_of_form (known_of known.now) form) }
-{
-    match form {
+    Ok(match form {
         Form::Int(width, signed) => Some(Shape::Int(width.bytes(), signed)),
         Form::Native(signed) => Some(Shape::Native(signed)),
         Form::Bool(width) => Some(Shape::Bool(width.bytes())),
         Form::Char(width) => Some(Shape::Char(width.bytes())),
         Form::Text(encoding) => Some(Shape::Text(encoding)),
         Form::InlineText(encoding, count) => Some(Shape::InlineText(encoding, count)),
+        Form::Struct(t) if left > 0 => struct_tree(alloc, known, t, left - 1)?,
         Form::Struct(_) => None,
-        Form::Thunk(t) => {
-            if known.is_callable(t) {
-                Some(Shape::Thunk(t))
-            } else {
-                None
-            }
-        }
-    }
+        Form::Thunk(t) if known.is_callable(t) => Some(Shape::Thunk(t)),
+        Form::Thunk(_) => None,
+    })
 }
 
 /// The shape of a value type whose parts are at most `left` levels deep.
@@ -80,7 +58,7 @@ fn struct_tree(
     t: u32,
     left: u32,
 ) -> Result<Option<Shape>, NoMemory>
-    ensures { IfOk result (λ found. IsTree found (option_map Shape.Struct ((known_of known.now).struct_of t))) }
+    ensures { IfOk result (λ found. IsTree nesting (left + 1) found (option_map Shape.Struct ((known_of known.now).struct_of t))) }
 {
     if !known.has_shape(t) {
         return Ok(None);
@@ -115,7 +93,7 @@ fn field_trees(
     fields: &[FieldFacts],
     left: u32,
 ) -> Result<Option<Shapes>, NoMemory>
-    ensures { IfOk result (λ found. IsTree found (all_some (map (field_shape (known_of known.now)) fields.now))) }
+    ensures { IfOk result (λ found. IsTree deepest_of left found (all_some (map (field_shape (known_of known.now)) fields.now))) }
 {
     let mut shapes = Shapes::new(alloc);
     for field in fields {
@@ -134,7 +112,7 @@ fn field_tree(
     field: FieldFacts,
     left: u32,
 ) -> Result<Option<Shape>, NoMemory>
-    ensures { IfOk result (λ found. IsTree found (field_shape (known_of known.now) field)) }
+    ensures { IfOk result (λ found. IsTree nesting left found (field_shape (known_of known.now) field)) }
 {
     match field_form(known, field.unicode, field.kind, field.descriptor) {
         None => Ok(None),

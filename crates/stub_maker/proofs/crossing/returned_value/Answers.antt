@@ -1,11 +1,11 @@
-use Rattle.std.proofs.Common.{Ok, Err, ap, refl, subst, sym, ◌∙◌}
+use Rattle.std.proofs.Common.{Err, refl, subst, sym}
 use Rattle.stub_maker.specs.declared.stub.Res.{Res}
 use Rattle.stub_maker.specs.declared.refused.Param.TheVariants.{Result as TheResult}
 use Rattle.stub_maker.specs.declared.refused.StubBad.{StubBad}
 use Rattle.stub_maker.specs.Answers.{and_then, map_ok}
 use Rattle.stub_maker.specs.Crossing.{IsStep}
 use Rattle.stub_maker.specs.Rules.{entry_in, laid, returned_by}
-use Rattle.stub_maker.proofs.Marking.{laid_out_form, result_err, result_ok}
+use Rattle.stub_maker.proofs.Marking.{laid_out_form, result_err, result_made}
 use Rattle.stub_maker.proofs.crossing.returned_value.Goals as goal
 
 pub shape-requires : goal.shape-requires
@@ -25,7 +25,6 @@ returns-in-Err g c =
 
 pub returns-in_ok-shape-in-Ok : goal.returns-in_ok-shape-in-Ok
 returns-in_ok-shape-in-Ok g c =
-    result_ok (g.K.KnownTypes.known c.args.known.now) c.in-Ok.found c.in_ok-shape-in-Ok.shape
+    result_made (g.K.KnownTypes.known c.args.known.now) c.in-Ok.found c.in_ok-shape-in-Ok.shape
     (and_then (λ e. laid e.shape e) (entry_in (g.K.KnownTypes.known c.args.known.now) c.args.unicode c.args.column c.args.passed))
-    c.in-Ok.ensures c.in_ok-shape-in-Ok.ensures
-    ∙ ap Ok (sym c.returned_by.ensures)
+    c.returned_by.result c.in-Ok.ensures c.in_ok-shape-in-Ok.ensures c.returned_by.ensures
