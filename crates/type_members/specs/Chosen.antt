@@ -10,7 +10,7 @@ use Rattle.type_model.specs.Types.{bases, run}
 use Rattle.type_model.specs.Subtypes.{interfaces_of, listed}
 use Rattle.type_model.specs.Members.{TypeRow, sig_of, type_row, code_at}
 use Rattle.type_members.specs.declared.core_members.MemberKind.{MemberKind}
-use Rattle.type_members.specs.declared.core_members.MemberKind.TheVariants.{Virtual}
+use Rattle.type_members.specs.declared.core_members.MemberKind.TheVariants.{Instance, Virtual}
 use Rattle.type_members.specs.declared.member.Member.{Member}
 use Rattle.type_members.specs.declared.member.Member.TheVariants.{Method, Core}
 use Rattle.type_members.specs.CoreMembers.{CoreMember, core_member_at, core_member_count}
@@ -49,6 +49,10 @@ owner_of m _ = None
 abbrev pub is_virtual_kind : MemberKind → Bool
 is_virtual_kind Virtual = true
 is_virtual_kind _ = false
+
+abbrev pub is_instance_kind : MemberKind → Bool
+is_instance_kind Instance = true
+is_instance_kind kind = is_virtual_kind kind
 
 abbrev pub is_virtual_core : Option CoreMember → Bool
 is_virtual_core None = false
@@ -149,7 +153,8 @@ by_class m receiver x =
     if is_virtual m x then option_map (λ slot. slot.body) (find (holds x) (slots_of m receiver)) else Some x
 
 -- What a class has for an interface's method (II.12.2): the body of its first row of MethodImpl for it, or else, where it names the
--- interface itself, its own virtual method of that name and signature, or that of its nearest base.
+-- interface itself, its own virtual method of that name and signature, or that of its nearest base. A core type's method that no type
+-- overrides is one that it has for its interface, too: the library's are virtual and final.
 abbrev pub is_for : Module → Member → List ℕ → Bool
 is_for m x numbers = list_any (same_member x) (listed (method_at m (slice_index numbers 2)))
 
@@ -161,11 +166,22 @@ abbrev pub names_interface : Module → TypeId → Option TypeId → Bool
 names_interface m id None = false
 names_interface m id (Some interface) = list_any (same_type interface) (interfaces_of m id)
 
+abbrev pub is_instance_core : Option CoreMember → Bool
+is_instance_core None = false
+is_instance_core (Some known) = is_instance_kind known.kind
+
+abbrev pub may_implement : Module → Member → Bool
+may_implement m (Core place) = is_instance_core (core_member_at place)
+may_implement m x = is_virtual m x
+
+abbrev pub implementing : Module → TypeId → List Member
+implementing m id = filter (may_implement m) (methods_of m id)
+
 abbrev pub entry_at : Module → Member → TypeId → Option Member
 entry_at m x id =
     first_of (impl_for m id x)
     (if names_interface m id (owner_of m x)
-    then find (is_like (name_of m x) (words_of m x) m) (flat_map (virtuals m) (id ∷ bases m id))
+    then find (is_like (name_of m x) (words_of m x) m) (flat_map (implementing m) (id ∷ bases m id))
     else None)
 
 -- that of the nearest class that has one
