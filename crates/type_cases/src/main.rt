@@ -1,5 +1,5 @@
 //! Reads cases, one a line of stdin, and prints what the crates of signatures, descriptors, values,
-//! layouts and graphs answer. The first word of a case says what is called; bytes are in hexadecimal, `-` where
+//! layouts, texts and graphs answer. The first word of a case says what is called; bytes are in hexadecimal, `-` where
 //! there are none. A line that begins with `#` is printed as it is.
 #![tactic(auto)]
 
@@ -8,6 +8,7 @@ mod graphs;
 mod hexadecimal;
 mod layouts;
 mod signatures;
+mod texts;
 mod values;
 
 use anyhow::bail;
@@ -32,6 +33,7 @@ fn print_case(rt: &HostRuntime, words: &[&str]) -> anyhow::Result<()> {
         || descriptors::print(rt, words)?
         || values::print(rt, words)?
         || layouts::print(rt, words)?
+        || texts::print(rt, words)?
         || graphs::print(rt, words)?
     {
         return Ok(());
