@@ -13,7 +13,7 @@ mod table_names;
 
 pub use cells::{CHECKED_TABLES, is_sound};
 pub use fields::text_at;
-pub use heaps::{Heaps, entry_at};
+pub use heaps::{Heaps, entry_at, units};
 pub use layout::{Shape, is_table, shape_rows};
 pub use meta::{Meta, read_meta};
 pub use table_names::{

@@ -1,8 +1,7 @@
--- What may stand for what, and that types of accepted files close no circle.
+-- Types of accepted files close no circle.
 use Rattle.std.proofs.Common.{◌≡◌, ◌≤◌, ℕ, ◌+◌, ◌-◌, ◌<◌, Bool, true, false, not, List, Result, Ok, Err, refl, sym, ap, subst, ◌∙◌, arith}
 use Rattle.std.specs.Prelude.{◌&&◌, IsTrue}
 use Rattle.std.proofs.lemmas.Bool.{and_parts}
-use Rattle.managed_value.specs.declared.names.TypeId.{TypeId}
 use Rattle.byte_view.specs.Headers.{Headers}
 use Rattle.byte_view.specs.Metadata.{Metadata, row_start}
 use Rattle.byte_view.specs.Parts as parts
@@ -14,12 +13,8 @@ use Rattle.graph_cycles.proofs.Walks.{tells}
 use Rattle.type_model.specs.Module.{Module, module_of, row_count}
 use Rattle.type_model.specs.Rows.{type_defs}
 use Rattle.type_model.specs.Part.{extends_edges, nesting_edges, inside_edges, has_field_sigs, is_sound_type, types_part, types_in}
-use Rattle.type_model.specs.Subtypes.{IsSubtype, Itself, Through}
 use Rattle.type_model.specs.Laws.{ClosesNoCircle}
-
-pub compose : (m : Module) (a b c : TypeId) → IsSubtype m a b → IsSubtype m b c → IsSubtype m a c
-compose m a b c (Itself _) more = more
-compose m a b c (Through _ d _ above rest) more = Through a d c above (compose m d b c rest more)
+use Rattle.type_model.proofs.HeldWithin.{held_within}
 
 no_circle : (edges : List Edge) (t : ℕ) → not (is_on_cycle edges t) ≡ true → ¬ OnCycle edges t
 no_circle edges t none circle = clash (is_on_cycle edges t) none (tells edges t t circle)
@@ -37,7 +32,7 @@ sound_parts m t sound =
     record {
       extends = no_circle (extends_edges m) t third.0;
       encloses = no_circle (nesting_edges m) t third.1;
-      holds = no_circle (inside_edges m) t second.1;
+      holds = λ within. no_circle (inside_edges m) t second.1 (held_within m t t within);
     }
 
 accepted : {A : Type 0} (part : Result ℕ Broken) (x m : A) → (part >>= λ _. Ok x) ≡ Ok m → (y : ℕ) × (part ≡ Ok y) × (x ≡ m)

@@ -18,5 +18,6 @@ pub mod Told
 pub mod RowNames
 pub mod SpecWays
 pub mod RowsByNumber
+pub mod HeldWithin
 pub mod LawsOfTypes
 pub mod NameChains

@@ -1,25 +1,34 @@
--- Laws of types: what may stand for what, and that types of accepted files close no circle.
-use Rattle.std.specs.Prelude.{◌≡◌, ◌≤◌, ℕ, List, Ok}
-use Rattle.managed_value.specs.declared.names.TypeId.{TypeId}
+-- Laws of types: those of accepted files close no circle.
+use Rattle.std.specs.Prelude.{◌≡◌, ◌≤◌, ◌⊎◌, ℕ, List, Contains, Some, Ok}
 use Rattle.byte_view.specs.Headers.{Headers}
 use Rattle.byte_view.specs.Metadata.{Metadata}
-use Rattle.graph_cycles.specs.Cycles.{OnCycle}
+use Rattle.graph_cycles.specs.Cycles.{Leads, OnCycle}
 use Rattle.type_model.specs.Module.{Module, row_count}
 use Rattle.type_model.specs.Rows.{type_defs}
-use Rattle.type_model.specs.Part.{extends_edges, nesting_edges, inside_edges, types_in}
-use Rattle.type_model.specs.Subtypes.{IsSubtype}
+use Rattle.type_model.specs.Types.{own_fields}
+use Rattle.type_model.specs.Part.{extends_edges, nesting_edges, field_value, types_in}
 
-abbrev pub SubtypesAreReflexive : Type 0
-SubtypesAreReflexive = (m : Module) (a : TypeId) → IsSubtype m a a
+-- Each value of a type holds one of another: the type has an instance field of it, which it declares itself or which a type
+-- declares that it extends, at whatever distance.
+pub record Holds (m : Module) (t u : ℕ) : Type 0 where
+  pub declarer : ℕ
+  pub extended : (declarer ≡ t) ⊎ Leads (extends_edges m) t declarer
+  pub first : 1 ≤ declarer
+  pub last : declarer ≤ row_count m type_defs
+  pub field : ℕ
+  pub own : Contains (own_fields m declarer) field
+  pub value : field_value m field ≡ Some u
 
-abbrev pub SubtypesCompose : Type 0
-SubtypesCompose = (m : Module) (a b c : TypeId) → IsSubtype m a b → IsSubtype m b c → IsSubtype m a c
+-- the same at any depth
+pub data HoldsWithin (m : Module) : ℕ → ℕ → Type 0 where
+  Directly : {t u : ℕ} → Holds m t u → HoldsWithin m t u
+  Deeper : {t u w : ℕ} → HoldsWithin m t u → Holds m u w → HoldsWithin m t w
 
 -- no type extends itself, encloses itself or stands inside itself, at whatever distance
 pub record ClosesNoCircle (m : Module) (t : ℕ) : Type 0 where
   pub extends : ¬ OnCycle (extends_edges m) t
   pub encloses : ¬ OnCycle (nesting_edges m) t
-  pub holds : ¬ OnCycle (inside_edges m) t
+  pub holds : ¬ HoldsWithin m t t
 
 abbrev pub AcceptedTypesCloseNoCircle : Type 0
 AcceptedTypesCloseNoCircle =

@@ -13,12 +13,12 @@ pub mod BaseTable
 pub mod Part
 pub mod Sound
 pub mod EntryPoint
-pub mod Subtypes
 pub mod Pool
 pub mod Names
 pub mod Ways
 pub mod ByName
 pub mod FirstRows
 pub mod HeldRows
+pub mod Examples
 pub mod Laws
 pub mod NameChains

@@ -1,8 +1,8 @@
 -- An assembly as its types are read from it: the file, what its headers tell, its heaps and the
 -- rows of its tables, and the numbers and texts in them.
-use Rattle.std.specs.Prelude.{ℕ, ◌-◌, ◌==◌, List, [], length, map, find, slice_index, slice_get, Option, Some, None, unwrap_or, if◌then◌else◌}
+use Rattle.std.specs.Prelude.{ℕ, ◌-◌, ◌==◌, Bool, List, [], ◌∷◌, length, map, find, slice_index, slice_get, Option, Some, None, unwrap_or, if◌then◌else◌}
 use Rattle.byte_view.specs.Headers.{Headers}
-use Rattle.std.specs.List.{range_with_len}
+use Rattle.std.specs.List.{range_with_len, list_any}
 use Rattle.byte_view.specs.Columns.{table_numbers}
 use Rattle.byte_view.specs.Metadata.{Metadata, table_of}
 use Rattle.byte_view.specs.Heaps.{text_at, blob_at}
@@ -16,6 +16,21 @@ pub record Module : Type 0 where
   pub blobs : List ℕ
   pub tables : List (List (List ℕ))
 
+-- The tables that types, members and imports are read from (II.22): TypeRef, TypeDef, Field,
+-- MethodDef, Param, InterfaceImpl, MemberRef, FieldMarshal, ClassLayout, FieldLayout,
+-- StandAloneSig, MethodImpl, ModuleRef, TypeSpec, ImplMap, FieldRVA and NestedClass.
+abbrev pub kept_tables : List ℕ
+kept_tables =
+    0x01 ∷ 0x02 ∷ 0x04 ∷ 0x06 ∷ 0x08 ∷ 0x09 ∷ 0x0A ∷ 0x0D ∷ 0x0F ∷ 0x10 ∷ 0x11 ∷ 0x19 ∷ 0x1A
+    ∷ 0x1B ∷ 0x1C ∷ 0x1D ∷ 0x29 ∷ []
+
+abbrev pub is_kept : ℕ → Bool
+is_kept table = list_any (λ kept. kept == table) kept_tables
+
+-- the rows of a table that is kept, none of another
+abbrev pub kept_rows : Metadata → ℕ → List (List ℕ)
+kept_rows metadata table = if is_kept table then table_of metadata table else []
+
 -- the module of a file whose headers and metadata were read
 abbrev pub module_of : List ℕ → Headers → Metadata → Module
 module_of bytes headers metadata = record {
@@ -24,7 +39,7 @@ module_of bytes headers metadata = record {
   strings = metadata.strings;
   user_strings = metadata.user_strings;
   blobs = metadata.blobs;
-  tables = map (table_of metadata) (range_with_len 0 table_numbers);
+  tables = map (kept_rows metadata) (range_with_len 0 table_numbers);
 }
 
 -- the rows of a table, by its number

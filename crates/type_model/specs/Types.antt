@@ -135,8 +135,9 @@ enum_of m id =
     (only (instance_fields m id))
     else None
 
--- the method that a delegate's call is: the first of a type of the file that is named Invoke
+-- the method that a delegate's call is: of a type of the file, the first that is named Invoke
 unfoldable pub invoke_of : Module → TypeId → Option ℕ
 invoke_of m id =
-    find (λ n. bytes_eq (Rows.method_name m n) (codes "Invoke"))
+    if nat_lt 0 id.arrays || is_core id.base then None
+    else find (λ n. bytes_eq (Rows.method_name m n) (codes "Invoke"))
     (run (Rows.first_method m id.base) (Rows.end_of_methods m id.base))

@@ -3,6 +3,7 @@
 ghost use Rattle.std.specs.Prelude.{◌≡◌, false, slice_index_or, IfOk};
 ghost use Rattle.type_model.specs.BaseTable.{extends_list as extended, TellsBelow};
 ghost use Rattle.type_model.specs.Core.{enum_place};
+ghost use Rattle.type_model.specs.Holding.{HoldsKinds};
 ghost use Rattle.type_model.specs.TypeIds.{core_id as id_of_core, coded_token as token_of_coded};
 ghost use Rattle.type_model.specs.Types as definition;
 
@@ -16,14 +17,20 @@ use crate::table_numbers::{ROW_LIMIT, TYPE_DEFS, TYPE_REFS, TYPE_SPECS};
 use crate::type_ids::{def_id, same_type};
 use bound_base::{Items, NoMemory};
 use managed_value::TypeId;
+use sqlite_items::Boxed;
 use std::alloc::{AllocError, Global};
 use std::marker::Model;
 
-/// An assembly, and which of its types are value types, enums, delegates and handles, by their rows of TypeDef from 0, which isn't
-/// there.
+/// An assembly, and which of its types are value types, enums, delegates and handles.
 #[derive(Drop)]
 pub struct Bases {
-    names: Names,
+    names: Boxed<Names>,
+    kinds: Kinds,
+}
+
+/// Which types of a file are below the core types that matter, by their rows of TypeDef from 0, which isn't there.
+#[derive(Drop)]
+struct Kinds {
     values: Items<bool>,
     enums: Items<bool>,
     delegates: Items<bool>,
@@ -38,47 +45,37 @@ impl Model for Bases {
 
     ghost view = { λ b. b.names };
 
-    ghost invariant = { λ b. HoldsKinds b.names b.values b.enums b.delegates b.handles };
+    ghost invariant = { λ b. HoldsKinds b.names b.kinds.values b.kinds.enums b.kinds.delegates b.kinds.handles };
 }
 
 impl Bases {
     /// Finds what each type is by what it extends.
-    pub fn of(alloc: Global, names: Names) -> Result<Bases, NoMemory>
+    pub fn of(alloc: Global, names: Boxed<Names>) -> Result<Bases, NoMemory>
         ensures { IfOk result (λ bases. bases ≡ names) }
     {
-        let extends = extends_list(alloc, &names)?;
-        let values = types_below(alloc, &names, &extends, u32::from(VALUE_TYPE))?;
-        let enums = types_below(alloc, &names, &extends, u32::from(ENUM))?;
-        let delegates = types_below(alloc, &names, &extends, u32::from(DELEGATE))?;
-        let handles = types_below(alloc, &names, &extends, u32::from(SAFE_HANDLE))?;
-        Ok(Bases {
-            names,
-            values,
-            enums,
-            delegates,
-            handles,
-        })
+        let kinds = kinds_of(alloc, names.get())?;
+        Ok(Bases { names, kinds })
     }
 
     /// What rows and tokens name.
     pub fn names(&self) -> &Names
         ensures { result.now ≡ self.now }
     {
-        &self.names
+        self.names.get()
     }
 
     /// The copies of the file, its heaps and its rows.
     pub fn image(&self) -> &Module
         ensures { result.now ≡ self.now }
     {
-        self.names.image()
+        self.names().image()
     }
 
     /// What a type extends (ECMA-335 II.22.37); an array extends Array, and so does a type that is said to extend an array.
     pub fn extends_of(&self, id: TypeId) -> Option<TypeId>
         ensures { result ≡ definition.extends_of self.now id }
     {
-        extends_by(&self.names, id)
+        extends_by(self.names(), id)
     }
 
     /// Whether a type is another's base, at any distance.
@@ -108,14 +105,14 @@ impl Bases {
     pub fn is_value_type(&self, id: TypeId) -> bool
         ensures { result ≡ definition.is_value_type self.now id }
     {
-        self.is_below_core(&self.values, id, VALUE_TYPE) && !same_type(core_id(ENUM), id)
+        self.is_below_core(&self.kinds.values, id, VALUE_TYPE) && !same_type(core_id(ENUM), id)
     }
 
     /// Whether a type is below Enum.
     pub fn is_below_enum(&self, id: TypeId) -> bool
         ensures { result ≡ definition.is_below self.now id (id_of_core enum_place) }
     {
-        self.is_below_core(&self.enums, id, ENUM)
+        self.is_below_core(&self.kinds.enums, id, ENUM)
     }
 
     /// Whether a type is a delegate type: one of the file below Delegate (ECMA-335 II.14.6).
@@ -123,7 +120,7 @@ impl Bases {
     pub fn is_delegate(&self, id: TypeId) -> bool
         ensures { result ≡ definition.is_delegate self.now id }
     {
-        id.base < FIRST_CORE && self.is_below_core(&self.delegates, id, DELEGATE)
+        id.base < FIRST_CORE && self.is_below_core(&self.kinds.delegates, id, DELEGATE)
     }
 
     /// Whether a type is SafeHandle or below it.
@@ -131,7 +128,8 @@ impl Bases {
     pub fn is_handle(&self, id: TypeId) -> bool
         ensures { result ≡ definition.is_handle self.now id }
     {
-        same_type(core_id(SAFE_HANDLE), id) || self.is_below_core(&self.handles, id, SAFE_HANDLE)
+        same_type(core_id(SAFE_HANDLE), id)
+            || self.is_below_core(&self.kinds.handles, id, SAFE_HANDLE)
     }
 
     /// Whether a type is below the core type of a place, if it is known which types of the file are.
@@ -152,6 +150,23 @@ fn is_told(told: &Items<bool>, row: u32) -> bool
     ensures { result ≡ slice_index_or told.now row false }
 {
     told.as_slice().get(row as usize).copied().unwrap_or(false)
+}
+
+/// Finds which types are below the core types that matter.
+fn kinds_of(alloc: Global, names: &Names) -> Result<Kinds, AllocError>
+    ensures { IfOk result (λ kinds. HoldsKinds names.now kinds.values kinds.enums kinds.delegates kinds.handles) }
+{
+    let extends = extends_list(alloc, names)?;
+    let values = types_below(alloc, names, &extends, u32::from(VALUE_TYPE))?;
+    let enums = types_below(alloc, names, &extends, u32::from(ENUM))?;
+    let delegates = types_below(alloc, names, &extends, u32::from(DELEGATE))?;
+    let handles = types_below(alloc, names, &extends, u32::from(SAFE_HANDLE))?;
+    Ok(Kinds {
+        values,
+        enums,
+        delegates,
+        handles,
+    })
 }
 
 /// What each type of a file extends, row after row.

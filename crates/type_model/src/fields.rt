@@ -130,11 +130,14 @@ impl Types {
         }
     }
 
-    /// The method that a delegate's call is: the first of a type of the file that is named Invoke, by its row of MethodDef.
+    /// The method that a delegate's call is: of a type of the file, the first that is named Invoke, by its row of MethodDef.
     #[tactic(auto, unfolding(crate::specs::Types::invoke_of))]
     pub fn invoke_of(&self, id: TypeId) -> Option<u32>
         ensures { result ≡ definition.invoke_of self.now id }
     {
+        if 0 < id.arrays || FIRST_CORE <= id.base {
+            return None;
+        }
         let method = self.method_named(id.base, b"Invoke")?;
         Some(method as u32)
     }

@@ -31,7 +31,7 @@ mod type_ids;
 mod ways;
 
 pub use import_rows::ImportRow;
-pub use laws::{accepted_types_close_no_circle, subtypes_are_reflexive, subtypes_compose};
+pub use laws::{accepted_types_close_no_circle, core_places_are_named};
 pub use loading::load;
 pub use members::{FieldRow, Import, Marshalled, MethodRow, TypeRow};
 pub use model::Types;

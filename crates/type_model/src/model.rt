@@ -3,6 +3,7 @@
 ghost use Rattle.std.specs.Prelude.{◌≡◌, IfOk};
 ghost use Rattle.std.specs.Option.{option_copied};
 ghost use Rattle.pe_reader.specs.Pe.{headers_of};
+ghost use Rattle.type_model.specs.Holding.{HoldsSignatures};
 ghost use Rattle.type_model.specs.Module.{module_of};
 ghost use Rattle.type_model.specs.TypeIds.{spec_sig as sig_of_spec, named as named_by, type_of as type_of_sig};
 ghost use Rattle.type_model.specs.Types as definition;
@@ -18,15 +19,22 @@ use managed_value::TypeId;
 use meta_tables::Meta;
 use pe_reader::Pe;
 use sig_reader::{Sig, TypeSig};
+use sqlite_items::Boxed;
 use std::alloc::Global;
 use std::marker::Model;
 
 /// The types of an assembly and their members. It has its own copy of the file, and answers by it.
 #[derive(Drop)]
 pub struct Types {
-    bases: Bases,
-    field_sigs: Pool<TypeSig>,
-    method_sigs: Pool<Sig>,
+    bases: Boxed<Bases>,
+    sigs: Boxed<Signatures>,
+}
+
+/// The signatures of fields and methods, by their rows.
+#[derive(Drop)]
+struct Signatures {
+    fields: Pool<TypeSig>,
+    methods: Pool<Sig>,
 }
 
 impl Model for Types {
@@ -37,7 +45,25 @@ impl Model for Types {
 
     ghost view = { λ t. t.bases };
 
-    ghost invariant = { λ t. HoldsSignatures t.bases t.field_sigs t.method_sigs };
+    ghost invariant = { λ t. HoldsSignatures t.bases t.sigs.fields t.sigs.methods };
+}
+
+/// Finds out what types are, over copies of a file.
+fn bases_of(alloc: Global, bytes: &[u8], pe: &Pe, meta: &Meta<'_>) -> Result<Boxed<Bases>, NoMemory>
+    ensures { IfOk result (λ bases. bases ≡ module_of bytes.now (headers_of pe.now) meta.now) }
+{
+    let image = Boxed::new(alloc, Module::of(alloc, bytes, pe, meta)?)?;
+    let names = Boxed::new(alloc, Names::of(alloc, image)?)?;
+    Ok(Boxed::new(alloc, Bases::of(alloc, names)?)?)
+}
+
+/// Reads the signatures of fields and methods.
+fn signatures_of(alloc: Global, image: &Module) -> Result<Signatures, NoMemory>
+    ensures { IfOk result (λ sigs. HoldsSignatures image.now sigs.fields sigs.methods) }
+{
+    let fields = field_sigs(alloc, image)?;
+    let methods = method_sigs(alloc, image)?;
+    Ok(Signatures { fields, methods })
 }
 
 impl Types {
@@ -45,36 +71,30 @@ impl Types {
     pub fn read(alloc: Global, bytes: &[u8], pe: &Pe, meta: &Meta<'_>) -> Result<Types, NoMemory>
         ensures { IfOk result (λ types. types ≡ module_of bytes.now (headers_of pe.now) meta.now) }
     {
-        let image = Module::of(alloc, bytes, pe, meta)?;
-        let field_sigs = field_sigs(alloc, &image)?;
-        let method_sigs = method_sigs(alloc, &image)?;
-        let bases = Bases::of(alloc, Names::of(alloc, image)?)?;
-        Ok(Types {
-            bases,
-            field_sigs,
-            method_sigs,
-        })
+        let bases = bases_of(alloc, bytes, pe, meta)?;
+        let sigs = Boxed::new(alloc, signatures_of(alloc, bases.get().image())?)?;
+        Ok(Types { bases, sigs })
     }
 
     /// What types extend, and what they are by that.
     pub fn bases(&self) -> &Bases
         ensures { result.now ≡ self.now }
     {
-        &self.bases
+        self.bases.get()
     }
 
     /// The copies of the file, its heaps and its rows.
     pub fn image(&self) -> &Module
         ensures { result.now ≡ self.now }
     {
-        self.bases.image()
+        self.bases().image()
     }
 
     /// The type in the blob of a row of TypeSpec.
     pub fn spec_sig(&self, s: u32) -> Option<&TypeSig>
         ensures { option_copied result ≡ sig_of_spec self.now s }
     {
-        self.bases.names().spec_sig(s)
+        self.bases().names().spec_sig(s)
     }
 
     /// The signature of a row of Field; None outside the grammar.
@@ -85,7 +105,7 @@ impl Types {
         if f == 0 {
             return None;
         }
-        self.field_sigs.get(f as usize - 1)
+        self.sigs.get().fields.get(f as usize - 1)
     }
 
     /// The signature of a row of MethodDef; None outside the grammar.
@@ -96,7 +116,7 @@ impl Types {
         if n == 0 {
             return None;
         }
-        self.method_sigs.get(n as usize - 1)
+        self.sigs.get().methods.get(n as usize - 1)
     }
 
     /// The type that a token names: of TypeDef, TypeRef or TypeSpec (ECMA-335 II.22). None where it names none, and where a
@@ -104,48 +124,48 @@ impl Types {
     pub fn named(&self, token: u32) -> Option<TypeId>
         ensures { result ≡ named_by self.now token }
     {
-        self.bases.names().named(token)
+        self.bases().names().named(token)
     }
 
     /// The type that a type of a signature names; None for one that is left out. A pointer counts as a UIntPtr.
     pub fn type_of(&self, sig: &TypeSig) -> Option<TypeId>
         ensures { result ≡ type_of_sig self.now sig.now }
     {
-        self.bases.names().type_of(sig)
+        self.bases().names().type_of(sig)
     }
 
     /// What a type extends (ECMA-335 II.22.37); an array extends Array, and so does a type that is said to extend an array.
     pub fn extends_of(&self, id: TypeId) -> Option<TypeId>
         ensures { result ≡ definition.extends_of self.now id }
     {
-        self.bases.extends_of(id)
+        self.bases().extends_of(id)
     }
 
     /// Whether a type is another's base, at any distance.
     pub fn is_below(&self, id: TypeId, base: TypeId) -> bool
         ensures { result ≡ definition.is_below self.now id base }
     {
-        self.bases.is_below(id, base)
+        self.bases().is_below(id, base)
     }
 
     /// Whether a type is a value type: below ValueType, and not Enum itself (ECMA-335 I.8.9.7).
     pub fn is_value_type(&self, id: TypeId) -> bool
         ensures { result ≡ definition.is_value_type self.now id }
     {
-        self.bases.is_value_type(id)
+        self.bases().is_value_type(id)
     }
 
     /// Whether a type is a delegate type: one of the file below Delegate (ECMA-335 II.14.6).
     pub fn is_delegate(&self, id: TypeId) -> bool
         ensures { result ≡ definition.is_delegate self.now id }
     {
-        self.bases.is_delegate(id)
+        self.bases().is_delegate(id)
     }
 
     /// Whether a type is SafeHandle or below it.
     pub fn is_handle(&self, id: TypeId) -> bool
         ensures { result ≡ definition.is_handle self.now id }
     {
-        self.bases.is_handle(id)
+        self.bases().is_handle(id)
     }
 }

@@ -14,13 +14,14 @@ use crate::type_ids::{Leaf, in_brackets, leaf_of};
 use bound_base::{Items, NoMemory};
 use managed_value::TypeId;
 use sig_reader::TypeSig;
+use sqlite_items::Boxed;
 use std::alloc::Global;
 use std::marker::Model;
 
 /// An assembly, and what each of its rows of TypeRef and TypeSpec names.
 #[derive(Drop)]
 pub struct Names {
-    image: Module,
+    image: Boxed<Module>,
     spec_sigs: Pool<TypeSig>,
     refs: Items<Option<TypeId>>,
     specs: Items<Option<TypeId>>,
@@ -39,12 +40,12 @@ impl Model for Names {
 
 impl Names {
     /// Finds what each row of TypeRef and TypeSpec names.
-    pub fn of(alloc: Global, image: Module) -> Result<Names, NoMemory>
+    pub fn of(alloc: Global, image: Boxed<Module>) -> Result<Names, NoMemory>
         ensures { IfOk result (λ names. names ≡ image) }
     {
-        let spec_sigs = spec_sigs(alloc, &image)?;
-        let refs = ref_names(alloc, &image)?;
-        let specs = spec_names(alloc, &image, refs.as_slice(), &spec_sigs)?;
+        let spec_sigs = spec_sigs(alloc, image.get())?;
+        let refs = ref_names(alloc, image.get())?;
+        let specs = spec_names(alloc, image.get(), refs.as_slice(), &spec_sigs)?;
         Ok(Names {
             image,
             spec_sigs,
@@ -57,7 +58,7 @@ impl Names {
     pub fn image(&self) -> &Module
         ensures { result.now ≡ self.now }
     {
-        &self.image
+        self.image.get()
     }
 
     /// The type in the blob of a row of TypeSpec.
@@ -77,10 +78,10 @@ impl Names {
     pub fn named(&self, token: u32) -> Option<TypeId>
         ensures { result ≡ definition.named self.now token }
     {
-        if is_type_spec(&self.image, token) {
+        if is_type_spec(self.image(), token) {
             name_at(self.specs.as_slice(), token % ROW_LIMIT)
         } else {
-            named_plainly(&self.image, self.refs.as_slice(), token)
+            named_plainly(self.image(), self.refs.as_slice(), token)
         }
     }
 

@@ -1,5 +1,0 @@
-use Rattle.type_model.specs.Subtypes.{Itself}
-use Rattle.type_model.proofs.laws.subtypes_are_reflexive.Goals as goal
-
-pub returns : goal.returns
-returns c = λ m a. Itself a
