@@ -6,3 +6,4 @@ pub mod CoreEdges
 pub mod SubtypeCases
 pub mod LawsOfMembers
 pub mod Composing
+pub mod FieldPlaces

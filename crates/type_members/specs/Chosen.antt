@@ -7,13 +7,13 @@ use Rattle.type_model.specs.Module.{Module, rows}
 use Rattle.type_model.specs.Rows
 use Rattle.type_model.specs.TypeIds.{row_limit, is_core, core_id, def_id, same_type}
 use Rattle.type_model.specs.Types.{bases, run}
-use Rattle.type_model.specs.Subtypes.{interfaces_of, listed}
 use Rattle.type_model.specs.Members.{TypeRow, sig_of, type_row, code_at}
 use Rattle.type_members.specs.declared.core_members.MemberKind.{MemberKind}
 use Rattle.type_members.specs.declared.core_members.MemberKind.TheVariants.{Instance, Virtual}
 use Rattle.type_members.specs.declared.member.Member.{Member}
 use Rattle.type_members.specs.declared.member.Member.TheVariants.{Method, Core}
 use Rattle.type_members.specs.CoreMembers.{CoreMember, core_member_at, core_member_count}
+use Rattle.type_members.specs.Subtypes.{interfaces_of, listed}
 use Rattle.type_members.specs.Found.{first_of, is_spelled, method_words, core_words, found}
 
 -- a method by its number: a row of MethodDef, or 2^24 + the place of a core member

@@ -96,6 +96,13 @@ unfoldable pub core_member_named : ℕ → List ℕ → List ℕ → Option ℕ
 core_member_named owner name words =
     find (λ k. is_core_member owner name words (core_member_at k)) (range_with_len 0 core_member_count)
 
+-- the core member that is a method of just this type with a name and a signature, by its place
+abbrev pub core_method : Module → TypeId → List ℕ → Sig → Option ℕ
+core_method m id name sig =
+    if nat_lt 0 id.arrays then None
+    else if is_core id.base then core_member_named (id.base - row_limit) name (method_words m sig)
+    else None
+
 -- the member of just this type that has a name and a spelling; arrays have none
 unfoldable pub member_of : Module → List ℕ → List ℕ → TypeId → Option Member
 member_of m name words id =

@@ -1,6 +1,6 @@
 -- When a value of one type may stand where another type is wanted (ECMA-335 I.8.7.1): the reflexive and transitive closure of
 -- what types extend and which interfaces they have, and for arrays that of their elements.
-use Rattle.std.specs.Prelude.{◌≡◌, ℕ, ◌+◌, ◌*◌, ◌-◌, ◌<◌, ◌==◌, Bool, true, false, not, ◌&&◌, ◌⊎◌, min, List, [], ◌∷◌, ◌++◌, slice_index, Option, Some, None, if◌then◌else◌}
+use Rattle.std.specs.Prelude.{◌≡◌, ℕ, ◌+◌, ◌*◌, ◌-◌, ◌<◌, ◌==◌, Bool, true, false, not, ◌&&◌, ◌⊎◌, min, nat_lt, List, [], ◌∷◌, ◌++◌, map, filter, slice_index, Option, Some, None, if◌then◌else◌}
 use Rattle.std.specs.List.{range_with_len, flat_map}
 use Rattle.managed_value.specs.declared.names.TypeId.{TypeId}
 use Rattle.graph_cycles.specs.declared.graph.Edge.{Edge}
@@ -54,6 +54,18 @@ interface_edge m elements numbers =
 
 unfoldable pub core_places : List ℕ
 core_places = range_with_len 0 core.core_count
+
+abbrev pub listed : {A : Type 0} → Option A → List A
+listed None = []
+listed (Some x) = x ∷ []
+
+-- the interfaces that a type names itself: a core type by the table, one of the file by its rows of InterfaceImpl, an array none
+unfoldable pub interfaces_of : Module → TypeId → List TypeId
+interfaces_of m id =
+    if nat_lt 0 id.arrays then []
+    else if is_core id.base then map core_id (core_interfaces (core.core_at (id.base - row_limit)))
+    else flat_map (λ numbers. listed (named m (coded_token (slice_index numbers 1))))
+    (filter (λ numbers. slice_index numbers 0 == id.base) (rows m interface_impls))
 
 -- from each type to those right above it
 unfoldable pub type_edges : Module → Bool → List Edge

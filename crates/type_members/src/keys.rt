@@ -11,7 +11,7 @@ use crate::spelling::{spell_id, spell_sig, spell_type};
 use crate::table_numbers::{FIELDS, METHOD_DEFS, ROW_LIMIT};
 use bound_base::{Items, NoMemory};
 use managed_value::TypeId;
-use sig_reader::{SigBad, read_field_sig, read_method_sig};
+use sig_reader::{Sig, SigBad, read_field_sig, read_method_sig};
 use std::alloc::{AllocError, Global};
 use type_model::Types;
 
@@ -44,6 +44,16 @@ pub fn blob_words(alloc: Global, types: &Types, blob: &[u8]) -> Result<Option<It
         Err(SigBad::BadSig(_)) => Ok(None),
         Err(SigBad::Memory) => Err(NoMemory),
     }
+}
+
+/// The spelling of a method's signature.
+pub fn method_words(alloc: Global, types: &Types, sig: &Sig) -> Result<Items<u64>, NoMemory>
+    ensures { IfOk result (λ words. words ≡ definition.method_words types.now sig.now) }
+{
+    let mut words = Items::new(alloc);
+    words.push(0)?;
+    spell_sig(types, sig, &mut words)?;
+    Ok(words)
 }
 
 /// Whether a method of the file has a name and a spelling.

@@ -6,6 +6,7 @@ mod core_members;
 mod edges;
 mod keys;
 mod laws;
+mod literals;
 mod member;
 mod member_refs;
 mod members;
@@ -18,4 +19,5 @@ pub use laws::{
     subtypes_compose,
 };
 pub use member::{Member, Unresolved};
+pub use member_refs::find_core_member;
 pub use members::Members;

@@ -5,13 +5,14 @@ ghost use Rattle.type_model.specs.Types.{run};
 ghost use Rattle.type_members.specs.Found as definition;
 ghost use Rattle.type_members.specs.Holding.{found_refs as refs_found};
 
-use crate::keys::{blob_words, is_core_member, is_field, is_method};
+use crate::keys::{blob_words, is_core_member, is_field, is_method, method_words};
 use crate::member::Member;
 use crate::table_numbers::{
     FIELDS, MEMBER_REFS, METHOD_DEFS, MODULE_REFS, ROW_LIMIT, TYPE_DEFS, TYPE_REFS, TYPE_SPECS,
 };
 use bound_base::{Items, NoMemory};
 use managed_value::TypeId;
+use sig_reader::Sig;
 use std::alloc::Global;
 use type_model::Types;
 
@@ -151,6 +152,24 @@ fn field_in(
         }
     }
     Ok(None)
+}
+
+/// The core member that is a method of just this type with a name and a signature, by its place. None exactly where the table has
+/// none; an array and a type of the file have none.
+pub fn find_core_member(
+    alloc: Global,
+    types: &Types,
+    t: TypeId,
+    name: &[u8],
+    sig: &Sig,
+) -> Result<Option<u32>, NoMemory>
+    ensures { IfOk result (λ found. found ≡ definition.core_method types.now t name.now sig.now) }
+{
+    if 0 < t.arrays || t.base < ROW_LIMIT {
+        return Ok(None);
+    }
+    let words = method_words(alloc, types, sig)?;
+    core_member_named(alloc, t.base - ROW_LIMIT, name, words.as_slice())
 }
 
 /// The first core member of a core type that has a name and a spelling, by its place.
