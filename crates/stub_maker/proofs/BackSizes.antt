@@ -122,11 +122,6 @@ module _ (known : Known) (ordered : IsInOrder known) where
   back_sized None back h = absurd (cc)
   back_sized (Some s) back h = signature_sized s back (plain_ok (is_plain_signature s) (back_of_signature known s) back h)
 
-  pub answered_back_sized : (invoke : Option Signature) (r : Result Back StubBad) → IsReturned r (back_of known invoke) → IfOk r IsSizedBack
-  answered_back_sized invoke (Ok back) h = back_sized invoke back h
-  answered_back_sized invoke (Err (Outside p w)) h = tt
-  answered_back_sized invoke (Err Memory) h = tt
-
 -- ---- types without a descriptor
 
 no_text_in_place : (u : Bool) (k : Kind) → form_by u row.InlineTexts k Nothing ≡ None

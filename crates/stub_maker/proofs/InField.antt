@@ -1,5 +1,5 @@
 -- The entry of a field is that of its own row: an array's is of one in place.
-use Rattle.std.proofs.Common.{◌≡◌, ℕ, Bool, true, nat_le, Option, Some, None, refl, sym, ap, subst}
+use Rattle.std.proofs.Common.{◌≡◌, ℕ, Bool, true, false, nat_le, Option, Some, None, is_some, refl, sym, ap, subst, ◌∙◌}
 use Rattle.std.specs.Option.{option_and_then, option_map}
 use Rattle.native_layout.specs.declared.shapes.Shape as shape
 use Rattle.native_layout.specs.declared.shapes.Shape.{Shape}
@@ -26,6 +26,18 @@ found_shape known f (Some e) h = h.shape
 pub no_shape : (known : Known) (o : Option Entry) → IsFound known None o → None ≡ option_map (λ (e : Entry). e.shape) o
 no_shape known None h = refl
 no_shape known (Some e) h = absurd h
+
+pub found_there : (known : Known) (f : Found) (o : Option Entry) → IsFound known (Some f) o → true ≡ is_some o
+found_there known f None h = absurd h
+found_there known f (Some e) h = refl
+
+pub none_there : (known : Known) (o : Option Entry) → IsFound known None o → false ≡ is_some o
+none_there known None h = refl
+none_there known (Some e) h = absurd h
+
+pub mapped_there : {A B : Type 0} (f : A → B) (o : Option A) → is_some (option_map f o) ≡ is_some o
+mapped_there f None = refl
+mapped_there f (Some a) = refl
 
 -- arrays behind a pointer don't cross in a field
 outside_twice : (a b : Option Shape) (rest : Option Entry) → or_else (entry_if Outside a) (or_else (entry_if Outside b) rest) ≡ rest
@@ -76,3 +88,16 @@ inline_when known u base k count code h =
     let P : Bool → Type 0 = λ b. option_map (λ s. shape.InlineArray base s count) (element_by known u col.InlineElement k code)
     ≡ when b (option_map (λ s. shape.InlineArray base s count) (element_by known u col.InlineElement k code)) in
     subst P (sym h) refl
+
+pub inline_there : (known : Known) (u : Bool) (base : ℕ) (k : Kind) (count : ℕ) (code : Option ℕ) → nat_le 1 count ≡ true
+    → is_some (element_by known u col.InlineElement k code) ≡ is_some (shape_by known u row.InlineArrays (Array base k) (Is (ByValArray count code)))
+inline_there known u base k count code h =
+    sym (mapped_there (λ s. shape.InlineArray base s count) (element_by known u col.InlineElement k code)) ∙ ap is_some (inline_when known u base k count code h)
+
+part_there : (o : Option Shape) → is_some (entry_if Part o) ≡ is_some o
+part_there None = refl
+part_there (Some s) = refl
+
+pub field_there : (known : Known) (u : Bool) (base : ℕ) (k : Kind) (d : Descriptor)
+    → is_some (first_entry (λ r. shape_by known u r (Array base k) d) col.Field rows) ≡ is_some (shape_by known u row.InlineArrays (Array base k) d)
+field_there known u base k d = ap is_some (field_entry known u base k d) ∙ part_there (shape_by known u row.InlineArrays (Array base k) d)

@@ -1,11 +1,12 @@
 //! How a callback crosses, as data: how its parameters are received, and how its result comes back.
 
-ghost use Rattle.std.specs.Prelude.{◌≡◌, Bool};
+ghost use Rattle.std.specs.Prelude.{◌≡◌, Bool, IfOk};
 ghost use Rattle.std.specs.Option.{option_copied};
 ghost use Rattle.stub_maker.specs.Answers.{map_ok};
 ghost use Rattle.stub_maker.specs.Callbacks.{back_of as spec_back_of, back_of_signature as spec_back_of_signature, element_base as spec_element_base, in_lists, received_by as spec_received_by, received_of as spec_received_of};
 ghost use Rattle.stub_maker.specs.Crossing.{IsReturned, IsStep};
 ghost use Rattle.stub_maker.specs.Rules.{each_from};
+ghost use Rattle.stub_maker.specs.Sized.{IsSizedBack};
 
 use crate::callbacks::{counted_by, marked_of};
 use crate::crossing::{encoding_in, returned};
@@ -41,7 +42,8 @@ pub fn back_of<K: ShapedTypes>(
     known: &K,
     invoke: Option<&Signature>,
 ) -> Result<Back, StubBad>
-    ensures { IsReturned result (spec_back_of (K.known known.now) (option_copied invoke.entry)) }
+    ensures back { IsReturned result (spec_back_of (K.known known.now) (option_copied invoke.entry)) }
+    ensures sized { IfOk result IsSizedBack }
 {
     match invoke {
         None => Err(outside_as_whole(Why::Type0)),

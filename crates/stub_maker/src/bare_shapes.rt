@@ -1,9 +1,10 @@
 //! The shapes of types that have no descriptor.
 
-ghost use Rattle.std.specs.Prelude.{◌≡◌, false};
+ghost use Rattle.std.specs.Prelude.{◌≡◌, false, IfOk};
 ghost use Rattle.stub_maker.specs.Crossing.{IsChosen, IsReturned};
 ghost use Rattle.stub_maker.specs.Described.{bare, bare_shape as spec_bare_shape};
 ghost use Rattle.stub_maker.specs.Rules.{entry_in, refusal};
+ghost use Rattle.stub_maker.specs.Sized.{IsSized};
 
 use crate::entries::{Found, KnownTypes, ShapedTypes, one_entry};
 use crate::kinds::{Descriptor, Kind, TypeKind};
@@ -18,7 +19,8 @@ pub fn bare_shape<K: ShapedTypes>(
     known: &K,
     kind: TypeKind,
 ) -> Result<Shape, StubBad>
-    ensures { IsReturned result (spec_bare_shape (K.known known.now) kind) }
+    ensures shape { IsReturned result (spec_bare_shape (K.known known.now) kind) }
+    ensures sized { IfOk result IsSized }
 {
     match kind {
         TypeKind::One(kind) => bare_one(alloc, known, kind),

@@ -1,6 +1,6 @@
 //! How a field of a value type looks in native memory.
 
-ghost use Rattle.std.specs.Prelude.{◌≡◌};
+ghost use Rattle.std.specs.Prelude.{◌≡◌, is_some};
 ghost use Rattle.std.specs.Option.{option_and_then, option_map};
 ghost use Rattle.stub_maker.specs.Shapes.{element_by, entry_by, shape_by};
 ghost use Rattle.stub_maker.specs.Entries.{shape_of_field_form};
@@ -18,7 +18,8 @@ pub fn field_form<K: KnownTypes>(
     kind: TypeKind,
     descriptor: Descriptor,
 ) -> Option<FieldForm>
-    ensures { option_and_then (shape_of_field_form (K.known known.now)) result ≡ option_map (λ e. e.shape) (entry_by (K.known known.now) unicode Column.Field kind descriptor) }
+    ensures form { option_and_then (shape_of_field_form (K.known known.now)) result ≡ option_map (λ e. e.shape) (entry_by (K.known known.now) unicode Column.Field kind descriptor) }
+    ensures row { is_some result ≡ is_some (entry_by (K.known known.now) unicode Column.Field kind descriptor) }
 {
     match kind {
         TypeKind::One(kind) => one_in_field(known, unicode, kind, descriptor),
@@ -33,7 +34,8 @@ fn one_in_field<K: KnownTypes>(
     kind: Kind,
     descriptor: Descriptor,
 ) -> Option<FieldForm>
-    ensures { option_and_then (shape_of_field_form (K.known known.now)) result ≡ option_map (λ e. e.shape) (entry_by (K.known known.now) unicode Column.Field (TypeKind.One kind) descriptor) }
+    ensures form { option_and_then (shape_of_field_form (K.known known.now)) result ≡ option_map (λ e. e.shape) (entry_by (K.known known.now) unicode Column.Field (TypeKind.One kind) descriptor) }
+    ensures row { is_some result ≡ is_some (entry_by (K.known known.now) unicode Column.Field (TypeKind.One kind) descriptor) }
 {
     let found = one_entry(known, unicode, Column::Field, kind, descriptor)?;
     Some(FieldForm::One(found.form))
@@ -47,7 +49,8 @@ fn array_in_field<K: KnownTypes>(
     element: Kind,
     descriptor: Descriptor,
 ) -> Option<FieldForm>
-    ensures { option_and_then (shape_of_field_form (K.known known.now)) result ≡ shape_by (K.known known.now) unicode Row.InlineArrays (TypeKind.Array base element) descriptor }
+    ensures form { option_and_then (shape_of_field_form (K.known known.now)) result ≡ shape_by (K.known known.now) unicode Row.InlineArrays (TypeKind.Array base element) descriptor }
+    ensures row { is_some result ≡ is_some (shape_by (K.known known.now) unicode Row.InlineArrays (TypeKind.Array base element) descriptor) }
 {
     match descriptor {
         Descriptor::Is(Spec::ByValArray(count, code)) => {
@@ -70,7 +73,8 @@ fn inline_array<K: KnownTypes>(
     count: u32,
     code: Option<u8>,
 ) -> Option<FieldForm>
-    ensures { option_and_then (shape_of_field_form (K.known known.now)) result ≡ option_map (λ s. Shape.InlineArray base s count) (element_by (K.known known.now) unicode Column.InlineElement element code) }
+    ensures form { option_and_then (shape_of_field_form (K.known known.now)) result ≡ option_map (λ s. Shape.InlineArray base s count) (element_by (K.known known.now) unicode Column.InlineElement element code) }
+    ensures row { is_some result ≡ is_some (element_by (K.known known.now) unicode Column.InlineElement element code) }
 {
     let found = one_entry(
         known,

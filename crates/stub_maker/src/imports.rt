@@ -3,7 +3,7 @@
 ghost use Rattle.std.specs.Prelude.{◌≡◌, All, IfOk};
 ghost use Rattle.stub_maker.specs.Crossing.{IsReturned};
 ghost use Rattle.stub_maker.specs.Rules.{is_plain_signature as spec_is_plain, stub_by, stub_of as spec_stub_of, stub_of_signature as spec_stub_of_signature};
-ghost use Rattle.stub_maker.specs.Sized.{IsSizedStep};
+ghost use Rattle.stub_maker.specs.Sized.{IsSizedStep, IsSizedStub};
 
 use crate::crossing::returned;
 use crate::entries::ShapedTypes;
@@ -34,7 +34,8 @@ pub fn outside_as_whole(why: Why) -> StubBad
 /// The stub of an import, or what of it has no row in the marshalling table and why: that its signature isn't preserved, then
 /// its method and its signature as a whole, then the first parameter from the left, then the result.
 pub fn stub_of<K: ShapedTypes>(alloc: Global, known: &K, import: &Imported) -> Result<Stub, StubBad>
-    ensures { IsReturned result (spec_stub_of (K.known known.now) import.now) }
+    ensures stub { IsReturned result (spec_stub_of (K.known known.now) import.now) }
+    ensures sized { IfOk result IsSizedStub }
 {
     if !import.preserves_signature {
         return Err(outside_as_whole(Why::PreserveSig));

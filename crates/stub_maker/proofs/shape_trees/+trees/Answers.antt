@@ -16,7 +16,7 @@ field_tree-returns-in-None-2 t c =
     let is : c.field_form.result ≡ Some (FieldForm.InlineArray c.in-Some-InlineArray.base c.in-Some-InlineArray.element c.in-Some-InlineArray.count) =
     c.in-Some-InlineArray.is ∙ ap Some c.in-Some-InlineArray.field-0-is in
     array_deep (known_of m) c.field_form.result c.in-Some-InlineArray.base c.in-Some-InlineArray.element c.in-Some-InlineArray.count c.args.left
-    (field_shape (known_of m) c.args.field) c.in_ok-form_tree-in-Some-InlineArray.field-0 is c.field_form.ensures c.in-None-2.is c.in_ok-form_tree-in-Some-InlineArray.ensures
+    (field_shape (known_of m) c.args.field) c.in_ok-form_tree-in-Some-InlineArray.field-0 is c.field_form.ensures.form c.in-None-2.is c.in_ok-form_tree-in-Some-InlineArray.ensures
 
 pub field_trees-returns-in-None : goal.field_trees-returns-in-None
 field_trees-returns-in-None t c =
