@@ -10,21 +10,17 @@ pub fn print(rt: &HostRuntime, words: &[&str]) -> anyhow::Result<bool> {
         return Ok(false);
     };
     match *call {
-        "cycle" => print_first(rt, edges_of(rt, words)?.as_slice())?,
-        "chain" => print_first(rt, chain_of(rt, words)?.as_slice())?,
-        "back" => {
-            let mut edges = chain_of(rt, words)?;
-            edges.reverse();
-            print_first(rt, edges.as_slice())?;
-        }
+        "cycle" => print_first(rt, edges_of(rt, words))?,
+        "chain" => print_first(rt, chain_of(rt, words))?,
+        "back" => print_first(rt, back_of(rt, words))?,
         "after" => print_after(rt, words)?,
         _ => return Ok(false),
     }
     Ok(true)
 }
 
-fn print_first(rt: &HostRuntime, edges: &[Edge]) -> anyhow::Result<()> {
-    match first_on_cycle(rt.alloc(), edges)? {
+fn print_first(rt: &HostRuntime, edges: anyhow::Result<Vec<Edge>>) -> anyhow::Result<()> {
+    match first_on_cycle(rt.alloc(), edges?.as_slice())? {
         Some(node) => println!(rt; "{node}")?,
         None => println!(rt; "none")?,
     }
@@ -62,25 +58,38 @@ fn chain_of(rt: &HostRuntime, words: &[&str]) -> anyhow::Result<Vec<Edge>> {
     Ok(edges)
 }
 
+/// The same edges, the last one first.
+fn back_of(rt: &HostRuntime, words: &[&str]) -> anyhow::Result<Vec<Edge>> {
+    let mut edges = chain_of(rt, words)?;
+    edges.reverse();
+    Ok(edges)
+}
+
 fn print_after(rt: &HostRuntime, words: &[&str]) -> anyhow::Result<()> {
     let Some((steps, words)) = words.split_first() else {
         bail!("steps of no number")
     };
+    print_ends(rt, ends_of(rt, words, steps.parse()?)?.as_slice())
+}
+
+/// Where each node of a table leads.
+fn ends_of(rt: &HostRuntime, words: &[&str], steps: u64) -> anyhow::Result<Vec<u32>> {
+    let table = table_of(rt, words)?;
+    let nodes: Vec<u32> = (0..words.len() as u32).collect(rt.alloc())?;
+    Ok(after_steps(rt.alloc(), table.as_slice(), nodes.as_slice(), steps)?)
+}
+
+fn table_of(rt: &HostRuntime, words: &[&str]) -> anyhow::Result<Vec<u32>> {
     let mut table = Vec::new(rt.alloc());
-    let mut nodes = Vec::new(rt.alloc());
-    let mut node = 0u32;
     for word in words {
         table.push(word.parse()?)?;
-        nodes.push(node)?;
-        node = node.saturating_add(1);
     }
+    Ok(table)
+}
+
+fn print_ends(rt: &HostRuntime, ends: &[u32]) -> anyhow::Result<()> {
     print!(rt; "to")?;
-    for end in &after_steps(
-        rt.alloc(),
-        table.as_slice(),
-        nodes.as_slice(),
-        steps.parse()?,
-    )? {
+    for end in ends {
         print!(rt; " {end}")?;
     }
     println!(rt; "")?;

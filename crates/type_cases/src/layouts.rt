@@ -11,7 +11,7 @@ ghost use Rattle.native_layout.specs.Outlines.{IsSound};
 
 use anyhow::bail;
 use native_layout::{
-    Enc, Layout, LayoutBad, Offsets, Outline, Shape, Shapes, StructShape, can_be_laid_out,
+    Enc, Extent, Layout, LayoutBad, Offsets, Outline, Shape, Shapes, StructShape, can_be_laid_out,
     has_pointer_cells, has_texts, is_flat, is_in_order, layout, scalar_parts,
 };
 use sqlite_items::Boxed;
@@ -29,12 +29,20 @@ pub fn print(rt: &HostRuntime, words: &[&str]) -> anyhow::Result<bool> {
         return Ok(false);
     };
     match *call {
-        "layout" => print_layout(rt, &shape_of(rt.alloc(), words)?)?,
-        "shape" => print_contents(rt, &shape_of(rt.alloc(), words)?)?,
+        "layout" => print_layout_of(rt, words)?,
+        "shape" => print_contents_of(rt, words)?,
         "doubled" => print_doubled(rt, words)?,
         _ => return Ok(false),
     }
     Ok(true)
+}
+
+fn print_layout_of(rt: &HostRuntime, words: &[&str]) -> anyhow::Result<()> {
+    print_layout(rt, &shape_of(rt.alloc(), words)?)
+}
+
+fn print_contents_of(rt: &HostRuntime, words: &[&str]) -> anyhow::Result<()> {
+    print_contents(rt, &shape_of(rt.alloc(), words)?)
 }
 
 fn print_layout(rt: &HostRuntime, shape: &Shape) -> anyhow::Result<()> {
@@ -66,21 +74,24 @@ fn print_laid(rt: &HostRuntime, laid: &Layout) -> anyhow::Result<()> {
 }
 
 fn print_contents(rt: &HostRuntime, shape: &Shape) -> anyhow::Result<()> {
-    print!(rt; "parts {}", scalar_parts(shape))?;
-    if is_flat(shape) {
-        print!(rt; " flat")?;
-    }
-    if has_pointer_cells(shape) {
-        print!(rt; " pointers")?;
-    }
-    if has_texts(shape) {
-        print!(rt; " texts")?;
-    }
-    if is_in_order(shape) && can_be_laid_out(rt.alloc(), shape)? {
-        print!(rt; " laid out")?;
-    }
-    println!(rt; "")?;
+    let flat = said(is_flat(shape), " flat");
+    let pointers = said(has_pointer_cells(shape), " pointers");
+    let texts = said(has_texts(shape), " texts");
+    let laid_out = said(is_laid_out(rt.alloc(), shape)?, " laid out");
+    println!(rt;
+        "parts {}{flat}{pointers}{texts}{laid_out}",
+        scalar_parts(shape)
+    )?;
     Ok(())
+}
+
+fn is_laid_out(alloc: Global, shape: &Shape) -> anyhow::Result<bool> {
+    Ok(is_in_order(shape) && can_be_laid_out(alloc, shape)?)
+}
+
+/// A word where something holds.
+fn said(holds: bool, word: &'static str) -> &'static str {
+    if holds { word } else { "" }
 }
 
 fn print_doubled(rt: &HostRuntime, words: &[&str]) -> anyhow::Result<()> {
@@ -103,21 +114,14 @@ fn doubled(alloc: Global, depth: u32) -> anyhow::Result<Outline>
 }
 
 fn print_outline(rt: &HostRuntime, outline: Outline) -> anyhow::Result<()> {
-    print!(rt;
-        "size {} align {}",
-        outline.extent.size, outline.extent.align
+    let Extent { size, align } = outline.extent;
+    let flat = said(outline.flat, " flat");
+    let pointers = said(outline.pointers, " pointers");
+    let laid_out = said(outline.stands, " laid out");
+    println!(rt;
+        "size {size} align {align} depth {} parts {}{flat}{pointers}{laid_out}",
+        outline.nesting, outline.parts
     )?;
-    print!(rt; " depth {} parts {}", outline.nesting, outline.parts)?;
-    if outline.flat {
-        print!(rt; " flat")?;
-    }
-    if outline.pointers {
-        print!(rt; " pointers")?;
-    }
-    if outline.stands {
-        print!(rt; " laid out")?;
-    }
-    println!(rt; "")?;
     Ok(())
 }
 
@@ -135,28 +139,37 @@ fn shape_of(alloc: Global, words: &[&str]) -> anyhow::Result<Shape> {
 
 /// Does what one word says to the shapes before it.
 fn add(alloc: Global, parts: &mut Vec<Part>, word: &str) -> anyhow::Result<()> {
-    if let Some(at) = word.strip_prefix('@') {
-        let Some(part) = parts.pop() else {
-            bail!("an offset of nothing")
-        };
-        parts.push(Part {
-            shape: part.shape,
-            offset: Some(at.parse()?),
-        })?;
-        return Ok(());
-    }
-    let shape = match word.split_once(':') {
-        Some(("array", count)) => array_of(alloc, parts, count.parse()?)?,
-        Some(("seq", numbers)) => struct_of(alloc, parts, false, numbers)?,
-        Some(("exp", numbers)) => struct_of(alloc, parts, true, numbers)?,
-        Some((name, number)) => numbered(name, number)?,
-        None => plain(word)?,
+    let part = match word.strip_prefix('@') {
+        Some(at) => placed(parts, at.parse()?),
+        None => shape_by(alloc, parts, word),
     };
-    parts.push(Part {
-        shape,
-        offset: None,
-    })?;
+    parts.push(part?)?;
     Ok(())
+}
+
+/// The last shape, at a written offset.
+fn placed(parts: &mut Vec<Part>, at: u32) -> anyhow::Result<Part> {
+    match parts.pop() {
+        Some(part) => Ok(Part {
+            shape: part.shape,
+            offset: Some(at),
+        }),
+        None => bail!("an offset of nothing"),
+    }
+}
+
+fn shape_by(alloc: Global, parts: &mut Vec<Part>, word: &str) -> anyhow::Result<Part> {
+    let shape = match word.split_once(':') {
+        Some(("array", count)) => array_of(alloc, parts, count.parse()?),
+        Some(("seq", numbers)) => struct_of(alloc, parts, false, numbers),
+        Some(("exp", numbers)) => struct_of(alloc, parts, true, numbers),
+        Some((name, number)) => numbered(name, number),
+        None => plain(word),
+    };
+    Ok(Part {
+        shape: shape?,
+        offset: None,
+    })
 }
 
 fn plain(word: &str) -> anyhow::Result<Shape> {
@@ -194,29 +207,37 @@ fn struct_of(
     explicit: bool,
     numbers: &str,
 ) -> anyhow::Result<Shape> {
+    let (pack, least, count) = struct_numbers(numbers)?;
+    if parts.len() < count {
+        bail!("a struct of more shapes than there are")
+    }
+    let (fields, offsets) = fields_of(alloc, parts.split_off(parts.len() - count)?)?;
+    Ok(Shape::Struct(StructShape {
+        ty: 1,
+        pack,
+        least,
+        explicit,
+        fields,
+        offsets,
+    }))
+}
+
+fn struct_numbers(numbers: &str) -> anyhow::Result<(u16, u32, usize)> {
     let Some((pack, numbers)) = numbers.split_once(':') else {
         bail!("a struct without its least size")
     };
     let Some((least, count)) = numbers.split_once(':') else {
         bail!("a struct without a number of fields")
     };
-    let count: usize = count.parse()?;
-    if parts.len() < count {
-        bail!("a struct of more shapes than there are")
-    }
-    let at = parts.len() - count;
+    Ok((pack.parse()?, least.parse()?, count.parse()?))
+}
+
+fn fields_of(alloc: Global, parts: Vec<Part>) -> anyhow::Result<(Shapes, Offsets)> {
     let mut fields = Shapes::new(alloc);
     let mut offsets = Offsets::new(alloc);
-    for part in parts.split_off(at)? {
+    for part in parts {
         fields.push(part.shape)?;
         offsets.push(part.offset)?;
     }
-    Ok(Shape::Struct(StructShape {
-        ty: 1,
-        pack: pack.parse()?,
-        least: least.parse()?,
-        explicit,
-        fields,
-        offsets,
-    }))
+    Ok((fields, offsets))
 }

@@ -3,6 +3,7 @@
 //! there are none. A line that begins with `#` is printed as it is.
 #![tactic(auto)]
 
+mod bodies;
 mod descriptors;
 mod graphs;
 mod hexadecimal;
@@ -29,7 +30,8 @@ fn main(rt: HostRuntime) -> anyhow::Result<()> {
 
 /// Prints what one case gives, by the first group of calls that knows it.
 fn print_case(rt: &HostRuntime, words: &[&str]) -> anyhow::Result<()> {
-    if signatures::print(rt, words)?
+    if bodies::print(rt, words)?
+        || signatures::print(rt, words)?
         || descriptors::print(rt, words)?
         || values::print(rt, words)?
         || layouts::print(rt, words)?

@@ -1,0 +1,12 @@
+pub mod Options
+pub mod Places
+pub mod Operands
+pub mod Starts
+pub mod Rows
+pub mod Marks
+pub mod Whole
+pub mod Reached
+pub mod SectionSteps
+pub mod Bodies
+pub mod Branches
+pub mod Rest

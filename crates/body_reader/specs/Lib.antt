@@ -1,0 +1,9 @@
+pub mod Opcodes
+pub mod Forms
+pub mod Instructions
+pub mod Code
+pub mod Clauses
+pub mod Bodies
+pub mod Refusals
+pub mod View
+pub mod Laws
