@@ -4,42 +4,33 @@ use byte_view::{compressed, le8, le16, le32, le64};
 use std::alloc::Global;
 
 pub fn print(rt: &HostRuntime, words: &[&str]) -> anyhow::Result<bool> {
-    match words {
-        ["le8", bytes, at] => {
-            let bytes = bytes_of(rt.alloc(), bytes)?;
-            print_number(
-                rt,
-                le8(bytes.as_slice(), at.parse::<usize>()?).map(u64::from),
-            )?;
-        }
-        ["le16", bytes, at] => {
-            let bytes = bytes_of(rt.alloc(), bytes)?;
-            print_number(
-                rt,
-                le16(bytes.as_slice(), at.parse::<usize>()?).map(u64::from),
-            )?;
-        }
-        ["le32", bytes, at] => {
-            let bytes = bytes_of(rt.alloc(), bytes)?;
-            print_number(
-                rt,
-                le32(bytes.as_slice(), at.parse::<usize>()?).map(u64::from),
-            )?;
-        }
-        ["le64", bytes, at] => {
-            let bytes = bytes_of(rt.alloc(), bytes)?;
-            print_number(rt, le64(bytes.as_slice(), at.parse::<usize>()?))?;
-        }
-        ["compressed", bytes, at] => {
-            let bytes = bytes_of(rt.alloc(), bytes)?;
-            match compressed(bytes.as_slice(), at.parse::<usize>()?) {
-                Some((number, size)) => println!(rt; "{number} in {size}")?,
-                None => println!(rt; "none")?,
-            }
-        }
-        _ => return Ok(false),
+    let [call, bytes, at] = words else {
+        return Ok(false);
+    };
+    if !["le8", "le16", "le32", "le64", "compressed"].contains(call) {
+        return Ok(false);
     }
+    let bytes = bytes_of(rt.alloc(), bytes)?;
+    print_read(rt, call, bytes.as_slice(), at.parse()?)?;
     Ok(true)
+}
+
+fn print_read(rt: &HostRuntime, call: &str, bytes: &[u8], at: usize) -> anyhow::Result<()> {
+    match call {
+        "le8" => print_number(rt, le8(bytes, at).map(u64::from)),
+        "le16" => print_number(rt, le16(bytes, at).map(u64::from)),
+        "le32" => print_number(rt, le32(bytes, at).map(u64::from)),
+        "le64" => print_number(rt, le64(bytes, at)),
+        _ => print_compressed(rt, compressed(bytes, at)),
+    }
+}
+
+fn print_compressed(rt: &HostRuntime, read: Option<(u32, usize)>) -> anyhow::Result<()> {
+    match read {
+        Some((number, size)) => println!(rt; "{number} in {size}")?,
+        None => println!(rt; "none")?,
+    }
+    Ok(())
 }
 
 /// The bytes that a word gives in hexadecimal, none for `-`.

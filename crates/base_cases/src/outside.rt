@@ -27,11 +27,7 @@ impl Outside {
 
     pub fn print(&mut self, rt: &HostRuntime, words: &[&str]) -> anyhow::Result<bool> {
         match words {
-            ["hold", name, bytes] => {
-                self.store
-                    .hold(name, bytes_of(rt.alloc(), bytes)?.as_slice())?;
-                println!(rt; "held")?;
-            }
+            ["hold", name, bytes] => self.hold(rt, name, bytes)?,
             ["reads_fail", numbers @ ..] => {
                 self.store.fail(calls(rt, numbers)?);
                 println!(rt; "reads {numbers:?} fail")?;
@@ -42,21 +38,26 @@ impl Outside {
                 self.sink.fail(calls(rt, numbers)?);
                 println!(rt; "writes {numbers:?} fail")?;
             }
-            ["put", bytes] => match self.sink.put(bytes_of(rt.alloc(), bytes)?.as_slice()) {
-                Ok(()) => println!(rt;
-                    "put, then [{}]",
-                    digits_of(rt.alloc(), self.sink.bytes())?
-                )?,
-                Err(fault) => {
-                    println!(rt;
-                        "{fault}, then [{}]",
-                        digits_of(rt.alloc(), self.sink.bytes())?
-                    )?;
-                }
-            },
+            ["put", bytes] => self.put(rt, bytes_of(rt.alloc(), bytes)?.as_slice())?,
             _ => return Ok(false),
         }
         Ok(true)
+    }
+
+    fn hold(&mut self, rt: &HostRuntime, name: &str, bytes: &str) -> anyhow::Result<()> {
+        self.store
+            .hold(name, bytes_of(rt.alloc(), bytes)?.as_slice())?;
+        println!(rt; "held")?;
+        Ok(())
+    }
+
+    fn put(&mut self, rt: &HostRuntime, bytes: &[u8]) -> anyhow::Result<()> {
+        match self.sink.put(bytes) {
+            Ok(()) => print!(rt; "put")?,
+            Err(fault) => print!(rt; "{fault}")?,
+        }
+        println!(rt; ", then [{}]", digits_of(rt.alloc(), self.sink.bytes())?)?;
+        Ok(())
     }
 }
 

@@ -92,35 +92,57 @@ impl Seek for Reader<'_> {
 
 pub fn print(rt: &HostRuntime, words: &[&str]) -> anyhow::Result<bool> {
     match words {
-        ["stream", script, pieces @ ..] => {
-            let mut taken = Vec::new(rt.alloc());
-            let mut sink = StreamSink::new(Writer {
-                turns: turns_of(rt.alloc(), script)?.into_iter(),
-                taken: &mut taken,
-            });
-            for piece in pieces {
-                match sink.put(bytes_of(rt.alloc(), piece)?.as_slice()) {
-                    Ok(()) => print!(rt; "put, ")?,
-                    Err(fault) => print!(rt; "{fault}, ")?,
-                }
-            }
-            drop(sink);
-            println!(rt; "then [{}]", digits_of(rt.alloc(), taken.as_slice())?)?;
-        }
+        ["stream", script, pieces @ ..] => print_stream(rt, script, pieces)?,
         ["read_from", script, bytes, at] => {
-            let bytes = bytes_of(rt.alloc(), bytes)?;
-            let mut reader = Reader {
-                turns: turns_of(rt.alloc(), script)?.into_iter(),
-                rest: bytes.as_slice(),
-            };
-            let mut into = [0u8; 4];
-            match read_from(&mut reader, at.parse::<u64>()?, &mut into) {
-                Ok(count) => print!(rt; "{count} of ")?,
-                Err(_) => print!(rt; "cannot read, then ")?,
-            }
-            println!(rt; "[{}]", digits_of(rt.alloc(), &into)?)?;
+            print_from(
+                rt,
+                script,
+                bytes_of(rt.alloc(), bytes)?.as_slice(),
+                at.parse()?,
+            )?;
         }
         _ => return Ok(false),
     }
     Ok(true)
+}
+
+fn print_stream(rt: &HostRuntime, script: &str, pieces: &[&str]) -> anyhow::Result<()> {
+    let mut taken = Vec::new(rt.alloc());
+    put_pieces(rt, turns_of(rt.alloc(), script)?, &mut taken, pieces)?;
+    println!(rt; "then [{}]", digits_of(rt.alloc(), taken.as_slice())?)?;
+    Ok(())
+}
+
+/// Puts pieces into a writer that does what the turns say.
+fn put_pieces(
+    rt: &HostRuntime,
+    turns: Vec<Turn>,
+    taken: &mut Vec<u8>,
+    pieces: &[&str],
+) -> anyhow::Result<()> {
+    let mut sink = StreamSink::new(Writer {
+        turns: turns.into_iter(),
+        taken,
+    });
+    for piece in pieces {
+        match sink.put(bytes_of(rt.alloc(), piece)?.as_slice()) {
+            Ok(()) => print!(rt; "put, ")?,
+            Err(fault) => print!(rt; "{fault}, ")?,
+        }
+    }
+    Ok(())
+}
+
+fn print_from(rt: &HostRuntime, script: &str, bytes: &[u8], at: u64) -> anyhow::Result<()> {
+    let mut reader = Reader {
+        turns: turns_of(rt.alloc(), script)?.into_iter(),
+        rest: bytes,
+    };
+    let mut into = [0u8; 4];
+    match read_from(&mut reader, at, &mut into) {
+        Ok(count) => print!(rt; "{count} of ")?,
+        Err(_) => print!(rt; "cannot read, then ")?,
+    }
+    println!(rt; "[{}]", digits_of(rt.alloc(), &into)?)?;
+    Ok(())
 }
