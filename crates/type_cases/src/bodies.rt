@@ -5,33 +5,55 @@
 use crate::hexadecimal::bytes_of;
 use body_reader::{Body, BodyBad, Op, instr, read_body, switch_target};
 use cil_unwind::next_handler;
+use sqlite_items::Boxed;
 
 pub fn print(rt: &HostRuntime, words: &[&str]) -> anyhow::Result<bool> {
-    match words {
-        ["body", bytes] => {
-            let bytes = bytes_of(rt.alloc(), bytes)?;
-            match read_body(rt.alloc(), bytes.as_slice()) {
-                Ok(body) => print_body(rt, &body)?,
-                Err(BodyBad::BadBody(at)) => println!(rt; "at {at}")?,
-                Err(BodyBad::Memory) => println!(rt; "out of memory")?,
-            }
-        }
-        ["instr", bytes, at] => {
-            let bytes = bytes_of(rt.alloc(), bytes)?;
-            let body = read_body(rt.alloc(), bytes.as_slice())?;
-            match instr(&body, at.parse::<u32>()?) {
-                Some((op, next)) => println!(rt; "{op:?}, next {next}")?,
-                None => println!(rt; "none")?,
-            }
-        }
-        ["next", bytes, at, from, tokens @ ..] => {
-            let bytes = bytes_of(rt.alloc(), bytes)?;
-            let body = read_body(rt.alloc(), bytes.as_slice())?;
-            print_next(rt, &body, at.parse::<u32>()?, from.parse::<u32>()?, tokens)?;
+    let Some((call, words)) = words.split_first() else {
+        return Ok(false);
+    };
+    match (*call, words) {
+        ("body", [bytes]) => print_read(rt, read(rt, bytes)?)?,
+        ("instr", [bytes, at]) => print_found(rt, whole(rt, bytes)?, at.parse()?)?,
+        ("next", [bytes, at, from, tokens @ ..]) => {
+            print_next(rt, whole(rt, bytes)?, [at.parse()?, from.parse()?], tokens)?;
         }
         _ => return Ok(false),
     }
     Ok(true)
+}
+
+fn read(rt: &HostRuntime, bytes: &str) -> anyhow::Result<Result<Body, BodyBad>> {
+    let bytes = bytes_of(rt.alloc(), bytes)?;
+    Ok(read_body(rt.alloc(), bytes.as_slice()))
+}
+
+/// A body that is none ends the cases.
+fn whole(rt: &HostRuntime, bytes: &str) -> anyhow::Result<Boxed<Body>> {
+    let body = read(rt, bytes)??;
+    Ok(Boxed::new(rt.alloc(), body)?)
+}
+
+fn print_read(rt: &HostRuntime, read: Result<Body, BodyBad>) -> anyhow::Result<()> {
+    match read {
+        Ok(body) => print_body(rt, &body),
+        Err(bad) => print_refusal(rt, bad),
+    }
+}
+
+fn print_refusal(rt: &HostRuntime, bad: BodyBad) -> anyhow::Result<()> {
+    match bad {
+        BodyBad::BadBody(at) => println!(rt; "at {at}")?,
+        BodyBad::Memory => println!(rt; "out of memory")?,
+    }
+    Ok(())
+}
+
+fn print_found(rt: &HostRuntime, body: Boxed<Body>, at: u32) -> anyhow::Result<()> {
+    match instr(body.get(), at) {
+        Some((op, next)) => println!(rt; "{op:?}, next {next}")?,
+        None => println!(rt; "none")?,
+    }
+    Ok(())
 }
 
 fn print_body(rt: &HostRuntime, body: &Body) -> anyhow::Result<()> {
@@ -66,16 +88,20 @@ fn print_instruction(rt: &HostRuntime, body: &Body, at: u32) -> anyhow::Result<(
 
 fn print_next(
     rt: &HostRuntime,
-    body: &Body,
-    at: u32,
-    from: u32,
+    body: Boxed<Body>,
+    [at, from]: [u32; 2],
     tokens: &[&str],
 ) -> anyhow::Result<()> {
-    let mut catching: Vec<u32> = Vec::new(rt.alloc());
-    for token in tokens {
-        catching.push(u32::from_str_radix(token, 16)?)?;
-    }
-    let handler = next_handler(body, at, from, |token| catching.contains(&token));
+    let catching = tokens_of(rt, tokens)?;
+    let handler = next_handler(body.get(), at, from, |token| catching.contains(&token));
     println!(rt; "{handler:?}")?;
     Ok(())
+}
+
+fn tokens_of(rt: &HostRuntime, words: &[&str]) -> anyhow::Result<Vec<u32>> {
+    let mut tokens = Vec::new(rt.alloc());
+    for word in words {
+        tokens.push(u32::from_str_radix(word, 16)?)?;
+    }
+    Ok(tokens)
 }

@@ -75,7 +75,8 @@ fn print_after(rt: &HostRuntime, words: &[&str]) -> anyhow::Result<()> {
 /// Where each node of a table leads.
 fn ends_of(rt: &HostRuntime, words: &[&str], steps: u64) -> anyhow::Result<Vec<u32>> {
     let table = table_of(rt, words)?;
-    let nodes: Vec<u32> = (0..words.len() as u32).collect(rt.alloc())?;
+    let count = u32::try_from(words.len()).unwrap_or(u32::MAX);
+    let nodes: Vec<u32> = (0..count).collect(rt.alloc())?;
     Ok(after_steps(rt.alloc(), table.as_slice(), nodes.as_slice(), steps)?)
 }
 
