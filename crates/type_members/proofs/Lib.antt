@@ -7,3 +7,11 @@ pub mod SubtypeCases
 pub mod LawsOfMembers
 pub mod Composing
 pub mod FieldPlaces
+pub mod Likeness
+pub mod AkinSlots
+pub mod MethodLists
+pub mod SlotPlaces
+pub mod CoreInterfaces
+pub mod Entries
+pub mod Marks
+pub mod FirstPlaces

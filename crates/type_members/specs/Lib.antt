@@ -6,3 +6,5 @@ pub mod Holding
 pub mod Subtypes
 pub mod Chosen
 pub mod Laws
+pub mod Akin
+pub mod FirstPlaces

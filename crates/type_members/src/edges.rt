@@ -169,7 +169,7 @@ fn def_id(t: u32) -> TypeId
 }
 
 /// The token of a coded index TypeDefOrRef (II.24.2.6); 0, which names nothing, for a row that no token can name.
-fn coded_token(coded: u32) -> u32
+pub fn coded_token(coded: u32) -> u32
     ensures { result ≡ token_of_coded coded }
 {
     let row = coded / 4;

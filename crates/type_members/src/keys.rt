@@ -124,7 +124,7 @@ pub fn is_core_member(
 }
 
 /// Spells a core member, after what is spelled already.
-fn spell_core(known: &CoreMember, words: &mut Items<u64>) -> Result<(), AllocError>
+pub fn spell_core(known: &CoreMember, words: &mut Items<u64>) -> Result<(), AllocError>
     ensures { OnOk result (words.new ≡ words.old ++ definition.core_words (view_member known.now)) }
 {
     match known.kind {

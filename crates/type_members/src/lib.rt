@@ -10,8 +10,12 @@ mod literals;
 mod member;
 mod member_refs;
 mod members;
+mod method_keys;
+mod methods;
+mod slots;
 mod spelling;
 mod table_numbers;
+mod virtual_calls;
 
 pub use core_members::{CoreMember, CorePart, MemberKind, core_member};
 pub use laws::{

@@ -2,16 +2,19 @@
 
 ghost use Rattle.std.specs.Prelude.{◌≡◌, ◌≤◌, ◌-◌, ◌↔◌, true, false, None, Some, IsTrue, IfOk, IfErr, slice_index_or};
 ghost use Rattle.graph_cycles.specs.Cycles.{Leads};
+ghost use Rattle.type_members.specs.Akin.{like};
 ghost use Rattle.type_members.specs.Found.{found};
 ghost use Rattle.type_members.specs.Subtypes.{IsSubtype, IsOfArrays, type_edges, node as node_of};
 
 use crate::edges::{node, type_graph};
 use crate::member::{Member, Unresolved};
 use crate::member_refs::{found_refs, known_method};
+use crate::method_keys::{MethodKeys, method_keys};
 use crate::table_numbers::{FIELDS, MEMBER_REFS, METHOD_DEFS, ROW_LIMIT};
 use bound_base::{Items, NoMemory};
 use graph_cycles::{Graph, leads};
 use managed_value::TypeId;
+use sqlite_items::Boxed;
 use std::alloc::Global;
 use std::marker::Model;
 use type_model::Types;
@@ -30,6 +33,7 @@ pub struct Members {
     plain: Graph,
     /// The same, where no value type leads on.
     elements: Graph,
+    keys: Boxed<MethodKeys>,
 }
 
 impl Model for Members {
@@ -40,7 +44,7 @@ impl Model for Members {
 
     ghost view = { λ m. m.types };
 
-    ghost invariant = { λ m. HoldsMembers m.types m.refs m.plain.edges.items m.elements.edges.items };
+    ghost invariant = { λ m. HoldsMembers m.types m.refs m.plain.edges.items m.elements.edges.items m.keys.numbers };
 }
 
 impl Members {
@@ -51,11 +55,13 @@ impl Members {
         let refs = found_refs(alloc, &types)?;
         let plain = type_graph(alloc, &types, false)?;
         let elements = type_graph(alloc, &types, true)?;
+        let keys = Boxed::new(alloc, method_keys(alloc, &types)?)?;
         Ok(Members {
             types,
             refs,
             plain,
             elements,
+            keys,
         })
     }
 
@@ -114,8 +120,17 @@ impl Members {
         Ok(leads(alloc, &self.elements, node(a), node(b))?)
     }
 
+    /// Whether two methods have one name and one signature.
+    pub(crate) fn is_like(&self, x: Member, y: Member) -> bool
+        ensures { result ≡ like self.now x y }
+    {
+        let key = self.keys.get().key(x);
+        0 < key && key == self.keys.get().key(y)
+    }
+
+    /// What a token finds, if it finds something.
     #[tactic(auto, unfolding(crate::specs::Found::found), using(crate::proofs::FoundRows::ref_listed))]
-    fn find(&self, token: u32) -> Option<Member>
+    pub(crate) fn find(&self, token: u32) -> Option<Member>
         ensures { result ≡ found self.now token }
     {
         let row = token % ROW_LIMIT;

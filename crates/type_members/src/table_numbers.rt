@@ -12,6 +12,8 @@ pub const INTERFACE_IMPLS: u8 = 0x09;
 
 pub const MEMBER_REFS: u8 = 0x0A;
 
+pub const METHOD_IMPLS: u8 = 0x19;
+
 pub const MODULE_REFS: u8 = 0x1A;
 
 pub const TYPE_SPECS: u8 = 0x1B;
